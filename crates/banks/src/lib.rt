@@ -1,0 +1,3 @@
+// Rule banks: what rules mean, the trait of every bank, and what is asked of a bank of any kind.
+pub mod bank;
+pub mod refusal;
