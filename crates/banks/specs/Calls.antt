@@ -11,7 +11,7 @@ use Rattle.std.specs.declared.option.Option.{Option}
 use Rattle.std.specs.declared.result.Result.{Result}
 use Rattle.rows.specs.Choices.{stands}
 use Rattle.rows.specs.Refusals.{Refusal, plain, fits, first, Answer}
-use Rattle.banks.specs.Rules.{Sheet, Rule, arity, named, SupportAt, Supported, Plan, Meets}
+use Rattle.banks.specs.Rules.{Sheet, Tuple, Rule, arity, named, SupportAt, SupportedBy, Supported, Live, NoRowEmpty, Plan, OfChoices, Meets}
 use Rattle.banks.specs.declared.refusal.CallError.{CallError}
 use Rattle.banks.specs.declared.refusal.CallError.the-variants.{NoSuchRule, NoSuchPlace, TooFewRows, TooFewMasks}
 
@@ -65,3 +65,17 @@ SupportAnswer w Rs k s before after =
 -- Whether a sheet is supported for the rules of a bank.
 abbrev pub SupportedAnswer : ℕ → List Rule → Sheet → Result Bool CallError → Type 0
 SupportedAnswer w Rs s = Answer call-says (first (too-few-rows w s ∷ [])) (Unit {0}) (λ r. Decides r (Supported s Rs))
+
+-- Whether every choice of a sheet has support in one rule of a bank.
+abbrev pub SupportedByAnswer : ℕ → List Rule → ℕ → Sheet → Result Bool CallError → Type 0
+SupportedByAnswer w Rs k s =
+    Answer call-says (first (no-such-rule Rs k ∷ too-few-rows w s ∷ [])) (Unit {0}) (λ r. Decides r (SupportedBy s (rule-at Rs k)))
+
+-- Whether a rule of a bank has a live tuple on a sheet.
+abbrev pub LiveAnswer : ℕ → List Rule → ℕ → Sheet → Result Bool CallError → Type 0
+LiveAnswer w Rs k s =
+    Answer call-says (first (no-such-rule Rs k ∷ too-few-rows w s ∷ [])) (Unit {0}) (λ r. Decides r ((t : Tuple) × Live s (rule-at Rs k) t))
+
+-- Whether a plan meets every rule of a bank: each of its numbers is a choice, and its choices form a permitted tuple of each rule.
+abbrev pub MeetsAnswer : ℕ → List Rule → Plan → Result Bool CallError → Type 0
+MeetsAnswer w Rs plan = Answer call-says (first (too-few-rows w plan ∷ [])) (Unit {0}) (λ r. Decides r (OfChoices plan × All (Meets plan) Rs))

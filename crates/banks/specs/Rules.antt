@@ -5,7 +5,7 @@ use mathlib.Core.Path.{_≡_}
 use Prim.Native.Nat.{ℕ, _<_}
 use lib.ListN.{length, getD}
 use Rattle.std.specs.shelf.Lists.{All}
-use Rattle.rows.specs.Choices.{stands}
+use Rattle.rows.specs.Choices.{choices, stands}
 
 -- A sheet: the masks of its rows, from row 0 on.
 abbrev pub Sheet : Type 0
@@ -72,6 +72,10 @@ pub record Supported (s : Sheet) (Rs : List Rule) : Type 0 where
 -- A plan: one choice for each row.
 abbrev pub Plan : Type 0
 Plan = List ℕ
+
+-- Each number of a plan is a choice.
+abbrev pub OfChoices : Plan → Type 0
+OfChoices plan = (r : ℕ) → r < length plan → getD plan r 0 < choices
 
 -- A plan stands on a sheet: all its choices do.
 pub record PlanStands (s : Sheet) (plan : Plan) : Type 0 where

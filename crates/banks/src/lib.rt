@@ -1,3 +1,4 @@
 // Rule banks: what rules mean, the trait of every bank, and what is asked of a bank of any kind.
 pub mod bank;
+pub mod questions;
 pub mod refusal;
