@@ -10,6 +10,10 @@ use Rattle.banks.specs.Lawful.{may-hold}
 use Rattle.banks.specs.declared.refusal.BankError.{BankError}
 use Rattle.banks.specs.declared.refusal.BankError.the-variants.{Size, Rule}
 
+-- A fault of a rule by its number and its spot.
+abbrev pub at-spot : ℕ → ℕ → Refusal
+at-spot n spot = record { number = n; values = spot ∷ [] }
+
 -- The fault of a rule, carried with the rule's number.
 abbrev pub of-rule : ℕ → Refusal → Refusal
 of-rule k f = record { number = f .number; values = k ∷ f .values }

@@ -14,6 +14,7 @@ use lib.ListN.{length}
 use lib.Pow.{pow-add, pow-mono, pow-lt, pow-pos, shl-shr, shr-shr, shr-lt}
 use Rattle.std.proofs.shelf.Tests.{cases-lt, cases-eq, cases-order, cases-bool, eqb-true, eqb-false, eq-eqb, ne-eqb, both-ways, and-parts, and-from, and-left, and-right, true≢false, not-true, cond-true, cond-false}
 use Rattle.std.specs.Iters.{counting}
+use Rattle.std.specs.Orderings.{Decides}
 use Rattle.std.specs.shelf.Lists.{kept-by}
 use Rattle.rows.specs.Choices.{choices, stands, members, Without, Lowest}
 
@@ -178,6 +179,12 @@ some-stands n m p h = (trailingZeros n m, lowest-is n m p h .here)
 pub not-zero : (m v : ℕ) → stands m v ≡ true → 0 < m
 not-zero zero v s = absurd (both-ways (stands 0 v) (stands-zero v) s)
 not-zero (suc m) v s = omega arith
+
+-- that a mask is not 0 says that some choice stands in it
+pub some-decides : (n m : ℕ) → m < 2 ^ n → Decides (not (eqb m 0)) ((v : ℕ) × (stands m v ≡ true))
+some-decides n m h =
+    ((λ t. some-stands n m (⊎-elim (λ e. absurd (both-ways (eqb m 0) (not-true (eqb m 0) t) (eq-eqb m 0 e))) (λ ne. omega arith) (cases-eq m 0)) h),
+    (λ st. ap not (ne-eqb m 0 (λ e. omega (arith, not-zero m (st .0) (st .1))))))
 
 -- how many choices stand is the number of ones
 ones-from : (n a m : ℕ) → m / 2 ^ a < 2 ^ n → length (kept-by (stands m) (counting a n)) ≡ ones (m / 2 ^ a)

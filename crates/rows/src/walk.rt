@@ -21,7 +21,7 @@ impl Walk {
 }
 
 pub impl Iterator for Walk as WalkIterator {
-    type Item = usize;
+    type Item = u8;
 
     ghost steps = { λ s r t. Walks (s .rest) r (t .rest) };
 
@@ -29,12 +29,12 @@ pub impl Iterator for Walk as WalkIterator {
 
     ghost left = { λ s. s .rest };
 
-    fn next(&mut self) -> Option<usize> {
+    fn next(&mut self) -> Option<u8> {
         if self.rest == 0 {
             return None;
         }
-        let lowest = self.rest.trailing_zeros() as usize;
-        self.rest = mask::without(self.rest, lowest);
+        let lowest = self.rest.trailing_zeros() as u8;
+        self.rest = mask::without(self.rest, lowest as usize);
         Some(lowest)
     }
 }
@@ -44,7 +44,7 @@ pub trait Test {
     // Which choices pass.
     ghost passes: { Self → ℕ → Type 0 };
 
-    fn passes_at(&self, choice: usize) -> bool
+    fn passes_at(&self, choice: u8) -> bool
         ensures { λ r. ⌜ Decides r (passes (now (self .entry)) choice) ⌝ };
 }
 
@@ -55,7 +55,7 @@ pub fn keep<T: Test>(mask: u64, test: &T) -> u64
     let mut passing = mask;
     for choice in Walk::over(mask) {
         if !test.passes_at(choice) {
-            passing = mask::without(passing, choice);
+            passing = mask::without(passing, choice as usize);
         }
     }
     passing

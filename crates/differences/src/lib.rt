@@ -1,0 +1,4 @@
+// Banks of difference rules.
+pub mod difference;
+mod partner;
+pub mod refusal;
