@@ -1,16 +1,19 @@
 -- What a bank's law gives of the rows that a rule names.
 use mathlib.Core.Bool.{Bool, true, false, not, _&&_, _||_}
 use mathlib.Core.List.{List, [], _∷_}
-use mathlib.Core.Path.{_≡_, refl}
+use mathlib.Core.Path.{_≡_, refl, sym, ap, _∙_}
 use Prim.Native.Nat.{ℕ, zero, suc, _<_, _≤_}
 use native.Mathlib.Omega.{arith}
 use lib.Dec.{eqb, leb, ltb}
 use lib.ListN.{length, getD}
-use Rattle.std.proofs.shelf.Elements.{all-getD}
-use Rattle.std.proofs.shelf.Tests.{and-parts, ltb-true, leb-true}
+use Rattle.std.specs.Orderings.{Decides}
+use Rattle.std.specs.Places.{Some-of}
+use Rattle.std.proofs.shelf.Elements.{all-getD, has-from-contains}
+use Rattle.std.proofs.shelf.Tests.{and-parts, and-right, ltb-true, leb-true, le-leb}
+use Rattle.std.proofs.shelf.Ways.{same-from-decides, decides-by-or, decides-like, decides-eqb}
 use Rattle.banks.specs.Calls.{rule-at}
 use Rattle.banks.specs.Lawful.{Lawful, max-width, max-rules}
-use Rattle.banks.specs.Names.{may-name, apart, below, max-arity}
+use Rattle.banks.specs.Names.{may-name, among, apart, below, max-arity}
 use Rattle.banks.specs.Rules.{Rule, arity, named}
 
 below-at : (w : ℕ) (rs : List ℕ) (p : ℕ) → below w rs ≡ true → p < length rs → getD rs p 0 < w
@@ -46,3 +49,25 @@ sized-from w Rs l =
     let p = and-parts (leb 1 w && leb w max-width) (leb (length Rs) max-rules) (l .size) in
     let q = and-parts (leb 1 w) (leb w max-width) (p .0) in
     record { low = leb-true _ _ (q .0); high = leb-true _ _ (q .1); few = leb-true _ _ (p .1) }
+
+-- a search of a list comes to `among`
+pub among-has : (x : ℕ) (xs : List ℕ) (r : Bool) → Some-of (λ y t. Decides t (y ≡ x)) xs r → r ≡ among x xs
+among-has x xs r h =
+    same-from-decides r (among x xs) (has-from-contains xs x r h)
+    (decides-by-or (eqb x) (λ y. y ≡ x) (among x) (λ y. decides-like (eqb x y) sym sym (decides-eqb x y)) refl (λ _ _. refl) xs)
+
+-- the rows from one place on are apart and below the width, as a test that goes on from place to place
+abbrev pub fine : ℕ → List ℕ → Bool
+fine w rs = apart rs && below w rs
+
+pub fine-step : (w x : ℕ) (xs : List ℕ) → ltb x w ≡ true → among x xs ≡ false → fine w (x ∷ xs) ≡ fine w xs
+fine-step w x xs l a = simp (l, a)
+
+pub fine-wide : (w x : ℕ) (xs : List ℕ) → ltb x w ≡ false → fine w (x ∷ xs) ≡ false
+fine-wide w x xs l = simp l (and-right (apart (x ∷ xs)) false refl)
+
+pub fine-twice : (w x : ℕ) (xs : List ℕ) → among x xs ≡ true → fine w (x ∷ xs) ≡ false
+fine-twice w x xs a = simp a
+
+pub may-name-fine : (w : ℕ) (rs : List ℕ) → 1 ≤ length rs → length rs ≤ max-arity → may-name w rs ≡ fine w rs
+may-name-fine w rs a b = simp (le-leb 1 (length rs) a, le-leb (length rs) max-arity b)

@@ -9,10 +9,8 @@ ghost use Rattle.rows.specs.Refusals.{Answer, first};
 ghost use Rattle.banks.specs.Rules.{NoRowEmpty};
 ghost use Rattle.banks.specs.Calls.{call-says, too-few-rows, too-few-masks, SupportedByAnswer, SupportedAnswer};
 use crate::bank::Bank;
+use crate::limits::MAX_ARITY;
 use crate::refusal::CallError;
-
-// The most rows that a rule names.
-pub const MAX_ARITY: usize = 16;
 
 // Refuses fewer rows than a bank's width, and then fewer masks than a rule's arity.
 pub fn admit(width: usize, arity: usize, rows: &[u64], masks: &[u64]) -> Result<(), CallError>
