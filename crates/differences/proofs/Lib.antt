@@ -1,2 +1,3 @@
+mod Congruence
 mod Finding
 mod Gathering

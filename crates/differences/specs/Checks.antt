@@ -35,12 +35,13 @@ modulus-fits Unequal = true
 modulus-fits AtMost = true
 modulus-fits (Congruent m) = leb 1 m && leb m choices
 
+abbrev pub in-bounds : Difference → Bool
+in-bounds d = offset-fits (d .offset) && modulus-fits (d .relation)
+
 -- The fault of a difference in a bank of width w, if any: 12 is tried before 13.
 abbrev pub fault : ℕ → Difference → Option Refusal
 fault w d =
-    first (
-    fits (not (may-name w (d .x ∷ d .y ∷ []))) (at-spot 12 0) ∷ fits (not (offset-fits (d .offset) && modulus-fits (d .relation))) (at-spot 13 0)
-    ∷ [])
+    first (fits (not (may-name w (d .x ∷ d .y ∷ []))) (at-spot 12 0) ∷ fits (not (in-bounds d)) (at-spot 13 0) ∷ [])
 
 -- The refusal of a bank of width w with the differences ds, if any.
 abbrev pub refusal : ℕ → List Difference → Option Refusal

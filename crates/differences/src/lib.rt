@@ -2,3 +2,4 @@
 pub mod difference;
 mod partner;
 pub mod refusal;
+mod support;

@@ -15,7 +15,7 @@ use rows::walk::WalkIterator;
 
 // What a choice seeks in the other row, at the sum of the choice and a shift.
 #[derive(Clone, Copy)]
-pub enum Seek {
+pub(crate) enum Seek {
     // The sum itself.
     Same,
     // Another choice than the sum.
@@ -70,13 +70,14 @@ fn has_at_most(mask: u64, sum: i64) -> bool
 }
 
 // The test that a choice has a partner among others.
-pub struct Partner {
+#[derive(Drop)]
+pub(crate) struct Partner {
     pub others: u64,
     pub shift: i32,
     pub seek: Seek,
 }
 
-pub impl Test for Partner as PartnerTest {
+pub(crate) impl Test for Partner as PartnerTest {
     ghost passes = { λ t v. Finds (t .seek) (pos v +ℤ t .shift) (t .others) };
 
     fn passes_at(&self, choice: u8) -> bool {
@@ -91,7 +92,7 @@ pub impl Test for Partner as PartnerTest {
 }
 
 // The remainders that the choices of a mask leave.
-pub fn remainders(mask: u64, modulus: u32) -> u64
+pub(crate) fn remainders(mask: u64, modulus: u32) -> u64
     requires { ⌜ 0 < modulus ⌝ ∗ ⌜ modulus ≤ 64 ⌝ }
     ensures { λ r. ⌜ ((v : ℕ) → Decides (stands r v) (Leaves mask modulus v)) ⌝ }
 {
@@ -103,14 +104,15 @@ pub fn remainders(mask: u64, modulus: u32) -> u64
 }
 
 // The test that the sum of a choice and a shift leaves one of some remainders.
-pub struct Residue {
+#[derive(Drop)]
+pub(crate) struct Residue {
     pub left: u64,
     pub shift: i32,
     pub modulus: u32,
     ghost positive: { 0 < modulus },
 }
 
-pub impl Test for Residue as ResidueTest {
+pub(crate) impl Test for Residue as ResidueTest {
     ghost passes = { λ t v. Finds Same (remEuclid (pos v +ℤ t .shift) (pos (t .modulus))) (t .left) };
 
     fn passes_at(&self, choice: u8) -> bool {

@@ -39,3 +39,7 @@ module _ (Passes : ℕ → Type 0) (mask : ℕ) where
           (k .sound w (stood .0) .0, still w (k .sound w (stood .0) .1) (λ e. absurd (stood .1 e)));
       whole = λ w s p. without-stays passing v less w taken (k .whole w s p) (λ e. f (subst Passes e p));
     }
+
+-- what is kept by one test is kept by an equal one
+pub kept-like : (P Q : ℕ → Type 0) (m r : ℕ) → ((v : ℕ) → P v → Q v) → ((v : ℕ) → Q v → P v) → Kept P m r → Kept Q m r
+kept-like P Q m r there back k v = ((λ s. (k v .0 s .0, there v (k v .0 s .1))), (λ q. k v .1 (q .0, back v (q .1))))

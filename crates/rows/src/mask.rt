@@ -3,11 +3,14 @@ ghost use mathlib.Core.Path.{_≡_};
 ghost use lib.ListN.{length};
 ghost use Rattle.rows.specs.Choices.{stands, members, Without};
 
+// How many choices there are: they are the numbers below this one.
+pub const CHOICES: usize = 64;
+
 // Whether a choice stands in a mask; no number from 64 on does.
 pub fn contains(mask: u64, choice: usize) -> bool
     ensures { λ r. ⌜ r ≡ stands mask choice ⌝ }
 {
-    choice < 64 && (mask >> choice) & 1 == 1
+    choice < CHOICES && (mask >> choice) & 1 == 1
 }
 
 // How many choices stand in a mask.
