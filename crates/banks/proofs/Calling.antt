@@ -1,17 +1,17 @@
 -- What an accepted call of a bank says of its arguments, and the refusals of a call that makes another.
 use mathlib.Core.Bool.{false}
-use mathlib.Core.List.{List, [], _∷_}
+use mathlib.Core.List.{List, [], _∷_, map}
 use mathlib.Core.Logic.{⊎-elim}
 use mathlib.Core.Path.{_≡_, refl, sym, ap, _∙_}
 use Prim.Native.Nat.{ℕ, _<_, _≤_}
 use native.Mathlib.Omega.{arith}
-use lib.ListN.{length, getD}
-use Rattle.std.proofs.shelf.Lists.{getD-past}
+use lib.ListN.{length, getD, List·getD-map}
+use Rattle.std.proofs.shelf.Lists.{getD-past, getD-default, length-map}
 use Rattle.std.proofs.shelf.Tests.{cases-lt}
 use Rattle.std.specs.declared.option.Option.{Option}
 use Rattle.std.specs.declared.option.Option.the-variants.{Some, None}
 use Rattle.rows.specs.Refusals.{Refusal, plain, fits, first}
-use Rattle.rows.proofs.Refusing.{first-past, first-none, not-lt-from, not-le-from, lt-fits-not, le-fits-not}
+use Rattle.rows.proofs.Refusing.{first-past, first-here, first-none, not-lt-from, not-le-from, lt-fits-not, le-fits, le-fits-not}
 use Rattle.banks.specs.Calls.{rule-at, no-such-rule, no-such-place, too-few-rows, too-few-masks}
 use Rattle.banks.specs.Lawful.{Lawful, max-width}
 use Rattle.banks.specs.Names.{max-arity}
@@ -55,3 +55,22 @@ row-within w Rs k s p r lawful adm h e =
     let low = rule-named w Rs k lawful (adm .0) .within p h in
     let high = sized-from w Rs lawful .high in
     (omega (arith, adm .1), omega arith)
+
+-- a bank of one kind, whose rules are the meanings of the entries of a list
+module _ {X : Type 0} (meaning : X → Rule) (xs : List X) (k : ℕ) where
+  pub rule-missing : (rest : List (Option Refusal)) → length xs ≤ k → first (no-such-rule (map meaning xs) k ∷ rest) ≡ Some (plain 22)
+  rule-missing rest h = first-here (no-such-rule (map meaning xs) k) rest (plain 22) (le-fits (length (map meaning xs)) k (plain 22) (simp length-map h))
+
+  pub rule-there : (rest : List (Option Refusal)) → k < length xs → first (no-such-rule (map meaning xs) k ∷ rest) ≡ first rest
+  rule-there rest h = first-past (no-such-rule (map meaning xs) k) rest (le-fits-not (length (map meaning xs)) k (plain 22) (simp length-map h))
+
+  pub rule-found : (d : X) → k < length xs → rule-at (map meaning xs) k ≡ meaning (getD xs k d)
+  rule-found d h = getD-default (map meaning xs) k _ (meaning d) (simp length-map h) ∙ List·getD-map meaning xs k d
+
+-- what was admitted by `admit`
+pub rows-enough : (w : ℕ) (s : Sheet) (rest : List (Option Refusal)) → first (too-few-rows w s ∷ rest) ≡ None → w ≤ length s
+rows-enough w s rest e = not-lt-from (length s) w (plain 24) (first-none (too-few-rows w s) rest e .0)
+
+pub masks-enough : (w a : ℕ) (s : Sheet) (masks : List ℕ) → first (too-few-rows w s ∷ too-few-masks a masks ∷ []) ≡ None → a ≤ length masks
+masks-enough w a s masks e =
+    not-lt-from (length masks) a (plain 25) (first-none (too-few-masks a masks) [] (first-none (too-few-rows w s) (too-few-masks a masks ∷ []) e .1) .0)

@@ -1,3 +1,4 @@
 pub mod Naming
 pub mod Showing
 pub mod Calling
+pub mod Faulting

@@ -16,7 +16,7 @@ pub trait Bank {
     // The rules, by their numbers from 0.
     ghost rules: { Self → List Rule };
 
-    law lawful: { (b : Self) → Lawful (wide b) (rules b) };
+    ghost lawful: { (b : Self) → Lawful (wide b) (rules b) };
 
     // The width.
     fn width(&self) -> usize

@@ -1,3 +1,5 @@
+mod Banking
 mod Congruence
 mod Finding
 mod Gathering
+mod Sides

@@ -1,3 +1,4 @@
 pub mod Differences
 pub mod Partners
 pub mod Checks
+pub mod Owed

@@ -1,4 +1,5 @@
 // Banks of difference rules.
+pub mod bank;
 pub mod difference;
 mod partner;
 pub mod refusal;

@@ -18,7 +18,7 @@ returns-in-Break-support g c =
     let w = g .B·Bank .wide (c .args .bank .now) in
     let Rs = g .B·Bank .rules (c .args .bank .now) in
     let e = err-from-errBy (c .from-residual .result) (c .from-residual .ensures .1) in
-    let masks = enough-masks w Rs (g .B·Bank·met .lawful (c .args .bank .now)) (c .args .rule) (replicate max-arity 0) refl in
+    let masks = enough-masks w Rs (g .B·Bank .lawful (c .args .bank .now)) (c .args .rule) (replicate max-arity 0) refl in
     rw (e .1, e .2) (sym (first-two (no-such-rule Rs (c .args .rule)) (too-few-rows w (c .args .rows .now)) _ masks) ∙ c .in-Break-support .ensures tt .0, tt)
 
 pub loop-place-holds : need.loop-place-holds
@@ -30,7 +30,7 @@ offset-rows-row g c =
     let R = rule-at (g .B·Bank .rules bank) (c .args .rule) in
     let adm = admitted (g .B·Bank .wide bank) (g .B·Bank .rules bank) (c .args .rule) (c .args .rows .now) _ (c .in-Continue-support .ensures tt .0) in
     let place-in : c .loop-place .place < arity R = omega (arith, c .in-Continue-place-end .ensures tt .1) in
-    let low = row-within (g .B·Bank .wide bank) (g .B·Bank .rules bank) (c .args .rule) (c .args .rows .now) (c .loop-place .place) (c .in-Continue-row .row) (g .B·Bank·met .lawful bank) adm place-in (c .in-Continue-row .ensures tt .1) in
+    let low = row-within (g .B·Bank .wide bank) (g .B·Bank .rules bank) (c .args .rule) (c .args .rows .now) (c .loop-place .place) (c .in-Continue-row .row) (g .B·Bank .lawful bank) adm place-in (c .in-Continue-row .ensures tt .1) in
     record { fits = omega (arith, low .1) }
 
 pub index-rows-row : need.index-rows-row
@@ -39,7 +39,7 @@ index-rows-row g c =
     let R = rule-at (g .B·Bank .rules bank) (c .args .rule) in
     let adm = admitted (g .B·Bank .wide bank) (g .B·Bank .rules bank) (c .args .rule) (c .args .rows .now) _ (c .in-Continue-support .ensures tt .0) in
     let place-in : c .loop-place .place < arity R = omega (arith, c .in-Continue-place-end .ensures tt .1) in
-    row-within (g .B·Bank .wide bank) (g .B·Bank .rules bank) (c .args .rule) (c .args .rows .now) (c .loop-place .place) (c .in-Continue-row .row) (g .B·Bank·met .lawful bank) adm place-in (c .in-Continue-row .ensures tt .1) .0
+    row-within (g .B·Bank .wide bank) (g .B·Bank .rules bank) (c .args .rule) (c .args .rows .now) (c .loop-place .place) (c .in-Continue-row .row) (g .B·Bank .lawful bank) adm place-in (c .in-Continue-row .ensures tt .1) .0
 
 pub returns-then-masks-place : need.returns-then-masks-place
 returns-then-masks-place g c =
