@@ -1,0 +1,3 @@
+mod Members
+mod Tuples
+mod Tested

@@ -1,0 +1,12 @@
+// Worked cases, proved as one table.
+ghost use mathlib.Core.Path.{_≡_};
+ghost use lib.ListN.{length};
+ghost use Rattle.cases.specs.Cases.{table, CasesHold};
+
+// How many worked cases the table has, each of which is proved to hold.
+pub fn proved_cases() -> usize
+    ensures count { λ r. ⌜ r ≡ length table ⌝ }
+    ensures hold { λ _. ⌜ CasesHold ⌝ }
+{
+    6
+}
