@@ -19,7 +19,7 @@ use Rattle.banks.specs.Rules.{Sheet, Rule, arity, named}
 use Rattle.banks.proofs.Naming.{rule-named, sized-from}
 
 -- a last reason that does not fit changes nothing
-pub first-two : (a b o : Option Refusal) → o ≡ None → first (a ∷ b ∷ o ∷ []) ≡ first (a ∷ b ∷ [])
+first-two : (a b o : Option Refusal) → o ≡ None → first (a ∷ b ∷ o ∷ []) ≡ first (a ∷ b ∷ [])
 first-two (Some f) b o e = refl
 first-two None (Some f) o e = refl
 first-two None None o e = ap (λ x. first (None ∷ None ∷ x ∷ [])) e
@@ -33,8 +33,13 @@ module _ (w : ℕ) (Rs : List Rule) (lawful : Lawful w Rs) (k : ℕ) where
       past e = omega (arith, ap arity e)
 
   -- so as many masks always suffice
-  pub enough-masks : (masks : List ℕ) → length masks ≡ max-arity → too-few-masks (arity (rule-at Rs k)) masks ≡ None
+  enough-masks : (masks : List ℕ) → length masks ≡ max-arity → too-few-masks (arity (rule-at Rs k)) masks ≡ None
   enough-masks masks e = lt-fits-not (length masks) (arity (rule-at Rs k)) (plain 25) (omega (arith, arity-few))
+
+  -- and support has only the other two reasons to refuse
+  pub support-reasons : (s : Sheet) (masks : List ℕ) → length masks ≡ max-arity
+      → first (no-such-rule Rs k ∷ too-few-rows w s ∷ []) ≡ first (no-such-rule Rs k ∷ too-few-rows w s ∷ too-few-masks (arity (rule-at Rs k)) masks ∷ [])
+  support-reasons s masks e = sym (first-two (no-such-rule Rs k) (too-few-rows w s) (too-few-masks (arity (rule-at Rs k)) masks) (enough-masks masks e))
 
 -- the rule is there, and the rows suffice
 pub admitted : (w : ℕ) (Rs : List Rule) (k : ℕ) (s : Sheet) (rest : List (Option Refusal))

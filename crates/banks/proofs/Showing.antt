@@ -1,15 +1,16 @@
 -- What the masks that show support say of a sheet.
-use mathlib.Core.Bool.{true}
+use mathlib.Core.Bool.{true, not}
 use mathlib.Core.List.{List}
 use mathlib.Core.Path.{_≡_, refl, sym, ap, subst, _∙_}
 use Prim.Native.Nat.{ℕ, _^_, _<_}
+use lib.Dec.{eqb}
 use lib.ListN.{length, getD}
 use Rattle.std.specs.Orderings.{Decides}
-use Rattle.std.proofs.shelf.Ways.{same-from-decides}
+use Rattle.std.proofs.shelf.Ways.{same-from-decides, decides-like}
 use Rattle.rows.specs.Choices.{choices, stands}
-use Rattle.rows.proofs.Masks.{same-mask}
+use Rattle.rows.proofs.Masks.{same-mask, some-decides}
 use Rattle.banks.specs.Calls.{Shows}
-use Rattle.banks.specs.Rules.{Sheet, Rule, arity, named, row, Live, SupportAt, SupportIn, SupportedBy}
+use Rattle.banks.specs.Rules.{Sheet, Tuple, Rule, arity, named, row, Live, SupportAt, SupportIn, SupportedBy}
 
 -- only a standing choice has support
 pub support-stands : (s : Sheet) (R : Rule) (p v : ℕ) → SupportAt s R p v → stands (row s (named R p)) v ≡ true
@@ -31,3 +32,10 @@ module _ (s : Sheet) (R : Rule) (before after : List ℕ) (shows : Shows s R bef
       shown v = shows .exact p v h
       stood : (v : ℕ) → Decides (stands (row s (named R p)) v) (SupportAt s R p v)
       stood v = ((λ st. supported (named R p) v st p h refl), support-stands s R p v)
+
+  -- a rule has a live tuple exactly where some choice has support at its first place
+  pub live-shown : 0 < arity R → getD after 0 0 < 2 ^ choices → Decides (not (eqb (getD after 0 0) 0)) ((t : Tuple) × Live s R t)
+  live-shown h small =
+      decides-like (not (eqb (getD after 0 0) 0)) (λ st. let a = shows .exact 0 (st .0) h .0 (st .1) in (a .tuple, a .live))
+      (λ l. (getD (l .0) 0 0, shows .exact 0 (getD (l .0) 0 0) h .1 (record { placed = h; tuple = l .0; live = l .1; there = refl })))
+      (some-decides choices (getD after 0 0) small)

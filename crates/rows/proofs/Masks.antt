@@ -18,6 +18,10 @@ use Rattle.std.specs.Orderings.{Decides}
 use Rattle.std.specs.shelf.Lists.{kept-by}
 use Rattle.rows.specs.Choices.{choices, stands, members, Without, Lowest}
 
+pub and-true : (b : Bool) → b ≡ (b && true)
+and-true true = refl
+and-true false = refl
+
 -- one digit
 digit-lt : (n : ℕ) → n % 2 < 2
 digit-lt n = mod-lt n (lit< tt)
@@ -228,11 +232,7 @@ not-there m v s w = ⊎-elim (λ e. here (eqb-true w v e)) (λ e. elsewhere e) (
     here : w ≡ v → stands m w ≡ (stands m w && not (eqb w v))
     here e = let at : stands m w ≡ false = ap (stands m) e ∙ s in simp at
     elsewhere : eqb w v ≡ false → stands m w ≡ (stands m w && not (eqb w v))
-    elsewhere e = simp e (as-it-is (stands m w))
-      where
-        as-it-is : (b : Bool) → b ≡ (b && true)
-        as-it-is true = refl
-        as-it-is false = refl
+    elsewhere e = simp e (and-true (stands m w))
 
 -- without a choice that stood, a mask is a smaller number
 pub without-lt : (n m v r : ℕ) → m < 2 ^ n → r < 2 ^ n → stands m v ≡ true → Without v m r → r < m

@@ -3,7 +3,7 @@ use mathlib.Core.Bool.{Bool, true, false, not, _&&_}
 use mathlib.Core.List.{List}
 use mathlib.Core.Path.{_≡_}
 use Prim.Native.Nat.{ℕ, _/_, _%_, _^_, _<_}
-use lib.Dec.{eqb}
+use lib.Dec.{eqb, ltb}
 use Rattle.std.specs.Iters.{counting}
 use Rattle.std.specs.Orderings.{Decides}
 use Rattle.std.specs.shelf.Lists.{kept-by}
@@ -25,6 +25,10 @@ members m = kept-by (stands m) (counting 0 choices)
 -- The mask r has the choices of m that pass a test, and no others.
 abbrev pub Kept : (ℕ → Type 0) → ℕ → ℕ → Type 0
 Kept Passes m r = (v : ℕ) → Decides (stands r v) ((stands m v ≡ true) × Passes v)
+
+-- The mask r has the choice v, if it is one, and no other.
+abbrev pub Only : ℕ → ℕ → Type 0
+Only v r = (w : ℕ) → stands r w ≡ (eqb w v && ltb v choices)
 
 -- The mask r has the choices of m but v, and no others.
 abbrev pub Without : ℕ → ℕ → ℕ → Type 0

@@ -1,7 +1,7 @@
 // Sets of choices as masks.
 ghost use mathlib.Core.Path.{_≡_};
 ghost use lib.ListN.{length};
-ghost use Rattle.rows.specs.Choices.{stands, members, Without};
+ghost use Rattle.rows.specs.Choices.{stands, members, Only, Without};
 
 // How many choices there are: they are the numbers below this one.
 pub const CHOICES: usize = 64;
@@ -18,6 +18,13 @@ pub fn count(mask: u64) -> u32
     ensures { λ r. ⌜ r ≡ length (members mask) ⌝ }
 {
     mask.count_ones()
+}
+
+// The mask of one choice; no number from 64 on is one.
+pub fn only(choice: usize) -> u64
+    ensures { λ r. ⌜ Only choice r ⌝ }
+{
+    if choice < CHOICES { 1u64 << choice } else { 0 }
 }
 
 // The mask without one choice, whether or not it stands there.

@@ -6,20 +6,19 @@ use borrow.Author.Count.{below-none, below-more}
 use borrow.Author.Needs.{needs}
 use Rattle.std.proofs.shelf.Results.{err-from-errBy}
 use Rattle.std.proofs.shelf.Tests.{false≢true}
-use Rattle.banks.specs.Calls.{rule-at, no-such-rule, too-few-rows, too-few-masks}
+use Rattle.banks.specs.Calls.{rule-at}
 use Rattle.banks.specs.Names.{max-arity}
 use Rattle.banks.specs.Rules.{arity, named, row}
-use Rattle.banks.proofs.Calling.{first-two, enough-masks, admitted, none-refused, row-within}
+use Rattle.banks.proofs.Calling.{support-reasons, admitted, none-refused, row-within}
 use Rattle.banks.proofs.Showing.{all-shown, one-missing}
 use Rattle.banks.proofs.questions.supported_by.Needs as need
 
 pub returns-in-Break-support : need.returns-in-Break-support
 returns-in-Break-support g c =
-    let w = g .B·Bank .wide (c .args .bank .now) in
-    let Rs = g .B·Bank .rules (c .args .bank .now) in
+    let bank = c .args .bank .now in
     let e = err-from-errBy (c .from-residual .result) (c .from-residual .ensures .1) in
-    let masks = enough-masks w Rs (g .B·Bank .lawful (c .args .bank .now)) (c .args .rule) (replicate max-arity 0) refl in
-    rw (e .1, e .2) (sym (first-two (no-such-rule Rs (c .args .rule)) (too-few-rows w (c .args .rows .now)) _ masks) ∙ c .in-Break-support .ensures tt .0, tt)
+    let reasons = support-reasons (g .B·Bank .wide bank) (g .B·Bank .rules bank) (g .B·Bank .lawful bank) (c .args .rule) (c .args .rows .now) (replicate max-arity 0) refl in
+    rw (e .1, e .2) (reasons ∙ c .in-Break-support .ensures tt .0, tt)
 
 pub loop-place-holds : need.loop-place-holds
 loop-place-holds g c = below-none _
