@@ -1,5 +1,6 @@
-pub mod Naming
-pub mod Showing
 pub mod Calling
 pub mod Faulting
+pub mod Naming
+pub mod Narrowing
 pub mod Planning
+pub mod Showing

@@ -9,9 +9,9 @@ use Rattle.std.specs.Orderings.{Decides}
 use Rattle.std.specs.shelf.Lists.{All}
 use Rattle.std.specs.declared.option.Option.{Option}
 use Rattle.std.specs.declared.result.Result.{Result}
-use Rattle.rows.specs.Choices.{stands}
+use Rattle.rows.specs.Choices.{stands, Kept}
 use Rattle.rows.specs.Refusals.{Refusal, plain, fits, first, Answer}
-use Rattle.banks.specs.Rules.{Sheet, Tuple, Rule, arity, named, SupportAt, SupportedBy, Supported, Live, NoRowEmpty, Plan, OfChoices, Meets}
+use Rattle.banks.specs.Rules.{Sheet, Tuple, Rule, arity, row, named, SupportAt, SupportIn, SupportedBy, Supported, Live, Plan, OfChoices, Meets}
 use Rattle.banks.specs.declared.refusal.CallError.{CallError}
 use Rattle.banks.specs.declared.refusal.CallError.the-variants.{NoSuchRule, NoSuchPlace, TooFewRows, TooFewMasks}
 
@@ -79,3 +79,12 @@ LiveAnswer w Rs k s =
 -- Whether a plan meets every rule of a bank: each of its numbers is a choice, and its choices form a permitted tuple of each rule.
 abbrev pub MeetsAnswer : ℕ → List Rule → Plan → Result Bool CallError → Type 0
 MeetsAnswer w Rs plan = Answer call-says (first (too-few-rows w plan ∷ [])) (Unit {0}) (λ r. Decides r (OfChoices plan × All (Meets plan) Rs))
+
+-- The choices of a row that stand and have support in every rule of a bank.
+abbrev pub ChoicesAnswer : ℕ → List Rule → Sheet → ℕ → Result ℕ CallError → Type 0
+ChoicesAnswer w Rs s r = Answer call-says (first (too-few-rows w s ∷ [])) (Unit {0}) (λ m. Kept (λ v. All (λ R. SupportIn s R r v) Rs) (row s r) m)
+
+-- Those of a mask that have support in one rule.
+abbrev pub NarrowedAnswer : ℕ → List Rule → ℕ → Sheet → ℕ → ℕ → Result ℕ CallError → Type 0
+NarrowedAnswer w Rs k s r mask =
+    Answer call-says (first (no-such-rule Rs k ∷ too-few-rows w s ∷ [])) (Unit {0}) (λ m. Kept (SupportIn s (rule-at Rs k) r) mask m)

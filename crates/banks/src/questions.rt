@@ -8,7 +8,7 @@ ghost use Rattle.std.specs.Orderings.{Decides};
 ghost use Rattle.rows.specs.Refusals.{Answer, first};
 ghost use Rattle.banks.specs.Rules.{NoRowEmpty, OfChoices};
 ghost use Rattle.rows.specs.Choices.{Only};
-ghost use Rattle.banks.specs.Calls.{call-says, too-few-rows, too-few-masks, SupportedByAnswer, SupportedAnswer, LiveAnswer, MeetsAnswer};
+ghost use Rattle.banks.specs.Calls.{call-says, too-few-rows, too-few-masks, SupportedByAnswer, SupportedAnswer, LiveAnswer, MeetsAnswer, NarrowedAnswer, ChoicesAnswer};
 use crate::bank::Bank;
 use crate::limits::MAX_ARITY;
 use crate::limits::MAX_WIDTH;
@@ -72,6 +72,38 @@ pub fn supported<B: Bank>(bank: &B, rows: &[u64]) -> Result<bool, CallError>
         }
     }
     Ok(true)
+}
+
+// The choices of a mask that have support in a rule, as choices of a row.
+fn narrowed<B: Bank>(bank: &B, rule: usize, rows: &[u64], row: usize, mask: u64) -> Result<u64, CallError>
+    ensures { λ r. ⌜ NarrowedAnswer (wide (now (bank .entry))) (rules (now (bank .entry))) rule (now (rows .entry)) row mask r ⌝ }
+{
+    let mut masks = [0u64; MAX_ARITY];
+    bank.support(rule, rows, &mut masks)?;
+    let mut passing = mask;
+    for place in 0..bank.arity(rule)? {
+        if bank.row_at(rule, place)? == row {
+            passing &= masks[place];
+        }
+    }
+    Ok(passing)
+}
+
+// The choices of a row that have support in every rule of a bank. In a row that is not there no choice stands.
+pub fn supported_choices<B: Bank>(bank: &B, rows: &[u64], row: usize) -> Result<u64, CallError>
+    ensures { λ r. ⌜ ChoicesAnswer (wide (now (bank .entry))) (rules (now (bank .entry))) (now (rows .entry)) row r ⌝ }
+{
+    if rows.len() < bank.width() {
+        return Err(CallError::TooFewRows);
+    }
+    if row >= rows.len() {
+        return Ok(0);
+    }
+    let mut passing = rows[row];
+    for rule in 0..bank.rule_count() {
+        passing = narrowed(bank, rule, rows, row, passing)?;
+    }
+    Ok(passing)
 }
 
 // Whether a rule has a live tuple on the rows.
