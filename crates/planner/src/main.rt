@@ -1,10 +1,17 @@
 // A planner's question: one saw, some orders and their free hours. Which order may still be released?
 use banks::bank::Bank;
+use banks::limits::MAX_ARITY;
 use banks::questions::supported;
+use banks::questions::supported_choices;
 use differences::bank::DifferenceBank;
 use differences::bank::DifferenceBankBank;
 use differences::difference::Difference;
+use differences::refusal::DifferenceFaultNumbered;
+use banks::refusal::BankErrorNumbered;
+use banks::refusal::CallErrorNumbered;
+use rows::mask::count;
 use rows::mask::only;
+use rows::refusal::RowErrorNumbered;
 use rows::row::Row;
 use std::error::AnyError;
 
@@ -13,23 +20,75 @@ mod rules;
 mod show;
 
 use plans::plan_exists;
-use rules::apart;
+use rules::not_the_same_hour;
 use show::hours;
-use show::refused;
+use show::told;
+use show::word;
 
 // Prints each order with its free hours.
 fn print_orders(rt: &LibcRuntime, orders: &[u64]) -> Result<(), AnyError> {
     for (order, mask) in orders.iter().enumerate() {
-        let row = match Row::new(*mask) {
-            Ok(row) => row,
-            Err(e) => return Err(refused(&e).into()),
-        };
-        let text = hours(rt.alloc(), row.mask())?;
-        println!(rt, "order {order}: hours {text}")?;
+        let row = told(rt.alloc(), Row::new(*mask))?;
+        let free = hours(rt.alloc(), row.mask())?;
+        println!(rt, "  order {order}: hours {free}")?;
     }
     Ok(())
 }
 
+// Prints which hours have support under a rule, at each of its places.
+fn print_support<B: Bank>(rt: &LibcRuntime, bank: &B, rule: usize, orders: &[u64]) -> Result<(), AnyError> {
+    let mut masks = [0u64; MAX_ARITY];
+    told(rt.alloc(), bank.support(rule, orders, &mut masks))?;
+    let arity = told(rt.alloc(), bank.arity(rule))?;
+    for (place, mask) in masks.iter().take(arity).enumerate() {
+        let order = told(rt.alloc(), bank.row_at(rule, place))?;
+        let shown = hours(rt.alloc(), *mask)?;
+        println!(rt, "  rule {rule}, not the same hour: order {order} has support at {shown}")?;
+    }
+    Ok(())
+}
+
+// Prints whether each order may go: whether an hour of it has support in every rule.
+fn print_orders_that_may_go<B: Bank>(rt: &LibcRuntime, bank: &B, orders: &[u64]) -> Result<(), AnyError> {
+    for (order, mask) in orders.iter().enumerate() {
+        let left = told(rt.alloc(), supported_choices(bank, orders, order))?;
+        let free = count(*mask);
+        let supported = count(left);
+        let go = word(left != 0);
+        println!(rt, "  order {order} may go: {go}, support at {supported} of {free} hours")?;
+    }
+    Ok(())
+}
+
+// Prints one sheet: its orders, the support under each rule, and what follows.
+fn print_sheet(rt: &LibcRuntime, title: &str, orders: &[u64], differences: &[Difference]) -> Result<(), AnyError> {
+    println!(rt, "{title}")?;
+    print_orders(rt, orders)?;
+    told(rt.alloc(), DifferenceBank::check(orders.len(), differences))?;
+    let bank = DifferenceBank::make(orders.len(), differences);
+    for rule in 0..bank.rule_count() {
+        print_support(rt, &bank, rule, orders)?;
+    }
+    print_orders_that_may_go(rt, &bank, orders)?;
+    let all = word(told(rt.alloc(), supported(&bank, orders))?);
+    println!(rt, "  every hour has support in every rule: {all}")?;
+    let mut memory = vec![in rt.alloc(); 0u8; orders.len()]?;
+    let plan = word(told(rt.alloc(), plan_exists(&bank, orders, &mut memory))?);
+    println!(rt, "  a plan for all orders exists: {plan}")?;
+    Ok(())
+}
+
+// The three sheets of the question.
+fn run(rt: &LibcRuntime) -> Result<(), AnyError> {
+    let one = only(9);
+    let two = only(9) | only(10);
+    let pair = [not_the_same_hour(0, 1)];
+    let three = [not_the_same_hour(0, 1), not_the_same_hour(0, 2), not_the_same_hour(1, 2)];
+    print_sheet(rt, "One saw, two orders and one free hour", &[one, one], &pair)?;
+    print_sheet(rt, "A second free hour", &[two, two], &pair)?;
+    print_sheet(rt, "A third order on the same two hours", &[two, two, two], &three)
+}
+
 fn main(rt: LibcRuntime) -> Result<(), AnyError> {
-    rt.report(print_orders(&rt, &[only(9), only(9)]))
+    rt.report(run(&rt))
 }

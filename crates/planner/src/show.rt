@@ -1,12 +1,16 @@
-// How sets of hours and refusals are printed.
+// How the program prints what the library answers.
+ghost use Rattle.std.specs.Results.{Cases};
+ghost use Rattle.std.specs.declared.result.Result.the-variants.{Ok};
+ghost use mathlib.Core.Path.{_≡_};
 use rows::refusal::Numbered;
 use rows::walk::Walk;
 use rows::walk::WalkIterator;
 use std::alloc::AllocError;
 use std::alloc::Global;
+use std::error::AnyError;
 
-// The hours of a mask, as {8,9}.
-pub fn hours(heap: Global, mask: u64) -> Result<String, AllocError> {
+// The hours of a mask, as {9,10}.
+pub(crate) fn hours(heap: Global, mask: u64) -> Result<String, AllocError> {
     let mut text = String::from_str(heap, "{")?;
     for hour in Walk::over(mask) {
         if text.len() > 1 {
@@ -19,8 +23,21 @@ pub fn hours(heap: Global, mask: u64) -> Result<String, AllocError> {
     Ok(text)
 }
 
-// A refusal by its number.
-pub fn refused<E: Numbered>(heap: Global, e: &E) -> Result<String, AllocError> {
-    let number = e.number();
-    format!(heap, "refused by {number}")
+// A refusal as an error that names its number.
+pub(crate) fn told<T, E: Numbered + Drop>(heap: Global, answer: Result<T, E>) -> Result<T, AnyError>
+    ensures { λ r. ⌜ Cases r (λ x. answer ≡ Ok x) (λ _. Unit {0}) ⌝ }
+{
+    match answer {
+        Ok(value) => Ok(value),
+        Err(refusal) => {
+            let number = refusal.number();
+            let text = format!(heap, "refused by {number}")?;
+            Err(text.into())
+        }
+    }
+}
+
+// Yes or no.
+pub(crate) fn word(answer: bool) -> &'static str {
+    if answer { "yes" } else { "no" }
 }
