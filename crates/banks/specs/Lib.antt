@@ -3,3 +3,5 @@ pub mod Names
 pub mod Lawful
 pub mod Calls
 pub mod Faults
+pub mod Pairs
+pub mod PairsOwed

@@ -2,6 +2,7 @@
 ghost use Rattle.rows.specs.Refusals.{Refusal};
 ghost use Rattle.banks.specs.Calls.{call-says};
 ghost use Rattle.banks.specs.Faults.{bank-says};
+ghost use Rattle.banks.specs.Pairs.{pair-says};
 use rows::refusal::Numbered;
 
 // Why a call of a bank is refused.
@@ -65,5 +66,26 @@ pub impl<F: Numbered> Numbered for BankError<F> as BankErrorNumbered {
                 }
             }
         }
+    }
+}
+
+// Why two banks make no pair.
+#[derive(Clone, Copy, PartialEq, Eq, Debug)]
+pub enum PairError {
+    // They have more than 512 rules together.
+    TooManyRules,
+}
+
+pub impl Numbered for PairError as PairErrorNumbered {
+    ghost says = { pair-says };
+
+    fn number(&self) -> u32 {
+        match self {
+            PairError::TooManyRules => 11,
+        }
+    }
+
+    fn value(&self, _place: usize) -> Option<usize> {
+        None
     }
 }
