@@ -1,0 +1,9 @@
+mod Bytes
+mod Fitting
+mod Adding
+mod Cutting
+mod Finding
+mod Scanning
+mod Supporting
+mod Checking
+mod Banking

@@ -1,0 +1,4 @@
+pub mod Tables
+pub mod Lines
+pub mod Checks
+pub mod Owed
