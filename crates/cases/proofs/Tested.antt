@@ -19,6 +19,7 @@ use Rattle.std.proofs.shelf.Ways.{decides-like}
 use Rattle.rows.specs.Choices.{choices, stands, members}
 use Rattle.banks.specs.Calls.{Shows}
 use Rattle.banks.specs.Rules.{Sheet, Rule, row, arity, SupportAt}
+use Rattle.diagrams.specs.Diagrams.{path}
 use Rattle.cases.specs.Cases.{Case, supports, Holds, table, CasesHold}
 use Rattle.cases.proofs.Tuples.{Small, live-tuples, live-in, in-live, at-place, at-place-decides}
 
@@ -89,5 +90,5 @@ all-hold [] e = tt
 all-hold (c ∷ cs) e = let p = and-parts (passes c) (all-pass cs) e in (passes-holds c (p .0), all-hold cs (p .1))
 
 pub cases-hold : CasesHold
-unfolding members stands
+unfolding members stands path
 cases-hold = all-hold table refl

@@ -15,5 +15,5 @@ pub fn proved_cases() -> usize
     ensures hold { λ _. ⌜ CasesHold ⌝ }
 {
     table_holds();
-    6
+    10
 }
