@@ -25,9 +25,10 @@ kept-all P m all v = ((λ s. (s, all v)), (λ q. q .0))
 
 -- one more thing asked, by a mask that shows it
 pub kept-and : (P Q : ℕ → Type 0) (m r shown : ℕ) → Kept P m r → ((v : ℕ) → Decides (stands shown v) (Q v)) → Kept (λ v. P v × Q v) m (bitAnd r shown)
-kept-and P Q m r shown k d v =
-    ((λ s. let b = and-parts (stands r v) (stands shown v) (sym (stands-and r shown v) ∙ s) in let p = k v .0 (b .0) in (p .0, (p .1, d v .0 (b .1)))),
-    (λ q. stands-and r shown v ∙ and-from (stands r v) (stands shown v) (k v .1 (q .0, q .1 .0)) (d v .1 (q .1 .1))))
+kept-and P Q m r shown k d v = (
+  (λ s. let b = and-parts (stands r v) (stands shown v) (sym (stands-and r shown v) ∙ s) in let p = k v .0 (b .0) in (p .0, (p .1, d v .0 (b .1)))),
+  (λ q. stands-and r shown v ∙ and-from (stands r v) (stands shown v) (k v .1 (q .0, q .1 .0)) (d v .1 (q .1 .1))),
+)
 
 -- one more thing asked of what is kept
 pub kept-more : (P Q : ℕ → Type 0) (m r t : ℕ) → Kept P m r → Kept Q r t → Kept (λ v. P v × Q v) m t

@@ -38,7 +38,7 @@ module _ (Ps Rs : List Rule) (k j : ℕ) (inside : k < length Ps) (there : j < l
   support-moved w u s before after r h l a =
       subst (λ R. Answer call-says (first (no-such-rule Ps k ∷ too-few-rows w s ∷ too-few-masks (arity R) before ∷ [])) (after ≡ before) (λ _. Shows s R before after) r) (sym same)
       (subst (λ why. Answer call-says why (after ≡ before) (λ _. Shows s (rule-at Rs j) before after) r)
-        (found Rs j _ there ∙ enough u l ∙ sym (found Ps k _ inside ∙ enough w h)) a)
+      (found Rs j _ there ∙ enough u l ∙ sym (found Ps k _ inside ∙ enough w h)) a)
     where
       enough : (n : ℕ) → n ≤ length s → first (too-few-rows n s ∷ too-few-masks (arity (rule-at Rs j)) before ∷ []) ≡ first (too-few-masks (arity (rule-at Rs j)) before ∷ [])
       enough n q = first-past (too-few-rows n s) _ (lt-fits-not (length s) n (plain 24) q)

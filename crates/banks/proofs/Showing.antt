@@ -30,6 +30,7 @@ module _ (s : Sheet) (R : Rule) (before after : List ℕ) (shows : Shows s R bef
     where
       shown : (v : ℕ) → Decides (stands (getD after p 0) v) (SupportAt s R p v)
       shown v = shows .exact p v h
+
       stood : (v : ℕ) → Decides (stands (row s (named R p)) v) (SupportAt s R p v)
       stood v = ((λ st. supported (named R p) v st p h refl), support-stands s R p v)
 

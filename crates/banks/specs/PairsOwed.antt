@@ -39,13 +39,13 @@ joined w Rs u Ss l k f =
     let b = held u (length Ss) (k .size) in
     record {
       size =
-        and-from (leb 1 (max w u) && leb (max w u) max-width) (leb (length (Rs ++ Ss)) max-rules)
-        (and-from (leb 1 (max w u)) (leb (max w u) max-width) (le-leb 1 (max w u) (omega arith)) (le-leb (max w u) max-width (omega arith)))
-        (ap (λ n. leb n max-rules) (length-append Rs Ss) ∙ f);
+          and-from (leb 1 (max w u) && leb (max w u) max-width) (leb (length (Rs ++ Ss)) max-rules)
+          (and-from (leb 1 (max w u)) (leb (max w u) max-width) (le-leb 1 (max w u) (omega arith)) (le-leb (max w u) max-width (omega arith)))
+          (ap (λ n. leb n max-rules) (length-append Rs Ss) ∙ f);
       names =
-        all-append (λ R. may-name (max w u) (R .names) ≡ true) Rs Ss
-        (all-weaker _ _ (λ R e. may-name-wider w (max w u) (omega arith) (R .names) e) Rs (l .names))
-        (all-weaker _ _ (λ R e. may-name-wider u (max w u) (omega arith) (R .names) e) Ss (k .names));
+          all-append (λ R. may-name (max w u) (R .names) ≡ true) Rs Ss
+          (all-weaker _ _ (λ R e. may-name-wider w (max w u) (omega arith) (R .names) e) Rs (l .names))
+          (all-weaker _ _ (λ R e. may-name-wider u (max w u) (omega arith) (R .names) e) Ss (k .names));
     }
 
 by-fit : (b : Bool) (w : ℕ) (Rs : List Rule) → (b ≡ true → Lawful w Rs) → Lawful (cond b w 1) (cond b Rs [])

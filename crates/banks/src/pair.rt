@@ -29,7 +29,11 @@ impl<A: Bank, B: Bank> Pair<A, B> {
         ensures banks { λ r. ⌜ r .0 ≡ record { first = first; second = second } ⌝ }
         ensures answer { λ r. ⌜ Answer pair-says (pair-refusal (A·Bank .rules first) (B·Bank .rules second)) (Unit {0}) (λ _. Unit {0}) (r .1) ⌝ }
     {
-        let answer = if fit(&first, &second) { Ok(()) } else { Err(PairError::TooManyRules) };
+        let answer = if fit(&first, &second) {
+            Ok(())
+        } else {
+            Err(PairError::TooManyRules)
+        };
         (Pair { first, second }, answer)
     }
 }

@@ -75,7 +75,13 @@ pub fn supported<B: Bank>(bank: &B, rows: &[u64]) -> Result<bool, CallError>
 }
 
 // The choices of a mask that have support in a rule, as choices of a row.
-fn narrowed<B: Bank>(bank: &B, rule: usize, rows: &[u64], row: usize, mask: u64) -> Result<u64, CallError>
+fn narrowed<B: Bank>(
+    bank: &B,
+    rule: usize,
+    rows: &[u64],
+    row: usize,
+    mask: u64,
+) -> Result<u64, CallError>
     ensures { λ r. ⌜ NarrowedAnswer (wide (now (bank .entry))) (rules (now (bank .entry))) rule (now (rows .entry)) row mask r ⌝ }
 {
     let mut masks = [0u64; MAX_ARITY];

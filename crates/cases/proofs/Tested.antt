@@ -66,6 +66,7 @@ shown-shows s R low = record {
   where
     at : ℕ → ℕ
     at p = at-place p (live-tuples s R)
+
     exact : (p v : ℕ) → p < arity R → Decides (stands (at-place p (live-tuples s R)) v) (SupportAt s R p v)
     exact p v h =
         decides-like (stands (at-place p (live-tuples s R)) v)

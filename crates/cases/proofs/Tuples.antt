@@ -80,6 +80,7 @@ at-place-decides p v (t ∷ ts) = (there (at-place-decides p v ts .0), back (at-
     there rest s =
         ⊎-elim (λ e. (t, inl refl, sym (eqb-true v (getD t p 0) (sym (stands-bit (getD t p 0) v) ∙ e)))) (λ e. let m = rest e in (m .0, inr (m .1), m .2))
         (or-cases (stands (2 ^ getD t p 0) v) (stands (at-place p ts) v) (sym (stands-or (2 ^ getD t p 0) (at-place p ts) v) ∙ s))
+
     back : ((u : Tuple) × In u ts × (getD u p 0 ≡ v) → stands (at-place p ts) v ≡ true) → (u : Tuple) × In u (t ∷ ts) × (getD u p 0 ≡ v) → stands (at-place p (t ∷ ts)) v ≡ true
     back rest m =
         stands-or (2 ^ getD t p 0) (at-place p ts) v

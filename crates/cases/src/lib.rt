@@ -6,8 +6,7 @@ ghost use Rattle.cases.specs.Cases.{table, CasesHold};
 // Every worked case of the table holds.
 fn table_holds()
     ensures { λ _. ⌜ CasesHold ⌝ }
-{
-}
+{}
 
 // How many worked cases the table has, each of which is proved to hold.
 pub fn proved_cases() -> usize

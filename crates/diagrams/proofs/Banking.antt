@@ -69,7 +69,7 @@ module _ (w : ℕ) (places : List ℕ) (pool : List Arc) (d : Diagram) (may : ma
     fault-node n f =
         past-counts
         ∙ node-refused k (d .nodes .start) (part places (d .nodes)) (d .arcs .start) (part pool (d .arcs)) n
-          (subst (λ x. FirstFailing (node-fits k x) (length x) (Some n)) own f)
+        (subst (λ x. FirstFailing (node-fits k x) (length x) (Some n)) own f)
 
     module _ (arcs : List Arc) (own′ : arcs ≡ part pool (d .arcs)) (fine : FirstFailing (node-fits k nodes) (length nodes) None) where
       fine′ : FirstFailing (node-fits k (part places (d .nodes))) (length (part places (d .nodes))) None
@@ -109,7 +109,7 @@ module _ (w : ℕ) (places : List ℕ) (pool : List Arc) (d : Diagram) (fine : F
       let n = counted in
       let s = layers-sound (length (now (d .rows))) (d .nodes .start) (part places (d .nodes)) (d .arcs .start) (part pool (d .arcs)) (fine .layers) in
       let l : Layered (length (now (d .rows))) (part places (d .nodes)) (part pool (d .arcs)) =
-          record { narrow = rows-named .few; some = omega (arith, node-count, n .two); few = omega (arith, node-count, n .nodes-few); places = s .0; order = s .1 }
+      record { narrow = rows-named .few; some = omega (arith, node-count, n .two); few = omega (arith, node-count, n .nodes-few); places = s .0; order = s .1 }
       in
       subst (λ x. Layered (length (now (d .rows))) nodes x) (sym own′) (subst (λ x. Layered (length (now (d .rows))) x (part pool (d .arcs))) (sym own) l)
 
@@ -161,11 +161,12 @@ pub support-shows : (w : ℕ) (places : List ℕ) (pool : List Arc) (ds : List D
 support-shows w places pool ds r d is s before none nodes arcs own own′ shown long exact front e =
     let k = length (now (d .rows)) in
     let Rs = map (meaning pool) ds in
-    let count = ap length own ∙ node-count w places pool d (is .fine) in
-    (first-past (no-such-rule Rs r) (too-few-rows w s ∷ too-few-masks (arity (rule-at Rs r)) before ∷ []) (le-fits-not (length Rs) r (plain 22) (is .there))
-      ∙ ap (λ a. first (too-few-rows w s ∷ too-few-masks a before ∷ [])) (is .many) ∙ none,
-    subst (λ R. Shows s R before (front ++ drop k before)) (sym (is .means))
-      (subst (λ x. Shows s (meaning pool d) before (x ++ drop k before)) (sym e)
-        (front-shows s (meaning pool d) shown before (omega (arith, long, is .few)) (masks-enough w k s before none)
+    let count = ap length own ∙ node-count w places pool d (is .fine) in (
+      first-past (no-such-rule Rs r) (too-few-rows w s ∷ too-few-masks (arity (rule-at Rs r)) before ∷ []) (le-fits-not (length Rs) r (plain 22) (is .there))
+          ∙ ap (λ a. first (too-few-rows w s ∷ too-few-masks a before ∷ [])) (is .many) ∙ none,
+      subst (λ R. Shows s R before (front ++ drop k before)) (sym (is .means))
+          (subst (λ x. Shows s (meaning pool d) before (x ++ drop k before)) (sym e)
+          (front-shows s (meaning pool d) shown before (omega (arith, long, is .few)) (masks-enough w k s before none)
           (subst (λ n. (p v : ℕ) → p < k → Decides (stands (getD shown p 0) v) (SupportAt s (rule (now (d .rows)) n (part pool (d .arcs))) p v)) count
-            (subst (λ x. (p v : ℕ) → p < k → Decides (stands (getD shown p 0) v) (SupportAt s (rule (now (d .rows)) (length nodes) x) p v)) own′ exact)))))
+          (subst (λ x. (p v : ℕ) → p < k → Decides (stands (getD shown p 0) v) (SupportAt s (rule (now (d .rows)) (length nodes) x) p v)) own′ exact)))),
+    )

@@ -36,10 +36,10 @@ module _ (test : ℕ → Bool) (says : ℕ → Refusal) where
   failed-from rest a (suc n) i h k bad fine =
       ⊎-elim
       (λ e. first-here (reason a) (map reason (counting (a + 1) n) ++ rest) (says i)
-        (cond-true (not (test a)) (Some (says a)) None (ap not (ap test e ∙ bad)) ∙ ap (λ j. Some (says j)) e))
+      (cond-true (not (test a)) (Some (says a)) None (ap not (ap test e ∙ bad)) ∙ ap (λ j. Some (says j)) e))
       (λ ne. first-past (reason a) (map reason (counting (a + 1) n) ++ rest)
-        (cond-false (not (test a)) (Some (says a)) None (ap not (fine a (omega arith) (omega arith))))
-        ∙ failed-from rest (a + 1) n i (omega arith) (omega arith) bad (λ j h k. fine j (omega arith) k))
+      (cond-false (not (test a)) (Some (says a)) None (ap not (fine a (omega arith) (omega arith))))
+      ∙ failed-from rest (a + 1) n i (omega arith) (omega arith) bad (λ j h k. fine j (omega arith) k))
       (cases-eq a i)
 
   none-from : (rest : List (Option Refusal)) (a n : ℕ) → first (map reason (counting a n) ++ rest) ≡ None

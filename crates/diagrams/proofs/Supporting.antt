@@ -29,12 +29,16 @@ module _ (s : Sheet) (names nodes : List ℕ) (arcs : List Arc) (masks : List �
     where
       start : place nodes 0 ≡ 0
       start = first-place (length names) nodes arcs l
+
       tuple : Tuple
       tuple = g .front ++ (v ∷ g .ends .0)
+
       way : Way nodes arcs masks 0 (length nodes - 1) (g .front ++ (v ∷ g .ends .0))
       way = way-joined nodes arcs masks (g .front) (v ∷ g .ends .0) 0 (g .node) (length nodes - 1) (g .reached) (g .target, g .step, g .ends .1)
+
       whole : length (g .front ++ (v ∷ g .ends .0)) ≡ length names
       whole = omega (arith, way-place nodes arcs masks (length names) l (g .front ++ (v ∷ g .ends .0)) 0 (length nodes - 1) way, start, last-place (length names) nodes arcs l)
+
       each : (q : ℕ) → q < length names → stands (row s (getD names q 0)) (getD (g .front ++ (v ∷ g .ends .0)) q 0) ≡ true
       each q k =
           let e : place nodes 0 + q ≡ q = omega (arith, start) in

@@ -67,10 +67,13 @@ module _ (nodes : List ℕ) (arcs : List Arc) (masks : List ℕ) where
             let s = and-parts (S (arc arcs (i - 1) .target)) (live (i - 1)) both .0 in
             let lv = and-parts (S (arc arcs (i - 1) .target)) (live (i - 1)) both .1 in
             let r = b .sound (arc arcs (i - 1) .target) s in (arc arcs (i - 1) .choice ∷ r .0, (arc arcs (i - 1) .target, step-at nodes arcs masks (i - 1) (omega arith) lv, r .1))
+
         stays : (n : ℕ) → S n ≡ true → T n ≡ true
         stays n e = more n ∙ or-right (eqb n (arc arcs (i - 1) .node)) (S n) e
+
         added : (n : ℕ) → n ≡ arc arcs (i - 1) .node → T n ≡ true
         added n e = more n ∙ or-left (eqb n (arc arcs (i - 1) .node)) (S n) (eq-eqb n (arc arcs (i - 1) .node) e)
+
         -- the target of an arc that was swept is not the node that is added
         before-it : (j : ℕ) → i ≤ j → j < length arcs → T (arc arcs j .target) ≡ true → S (arc arcs j .target) ≡ true
         before-it j le lt t =
@@ -147,6 +150,7 @@ module _ (nodes : List ℕ) (arcs : List Arc) (masks : List ℕ) where
               ∙ stands-or (getD shown q 0) (2 ^ v) u
               ∙ ap (λ b. stands (getD shown q 0) u || b) (stands-bit v u ∙ sym (ap (λ b. b && eqb u v) (eq-eqb p q e)))
               ∙ ap (λ x. stands (getD shown x 0) u || eqb p q && eqb u v) (sym e)
+
           elsewhere : (p ≡ q → ⊥) → stands (getD shows p 0) u ≡ (stands (getD shown p 0) u || eqb p q && eqb u v)
           elsewhere ne =
               ap (λ m. stands m u) (getD-set-other shown q p (bitOr (getD shown q 0) ((1 * 2 ^ v) % 2 ^ 64)) 0 ne)
@@ -180,8 +184,8 @@ module _ (nodes : List ℕ) (arcs : List Arc) (masks : List ℕ) where
       passed-before j le p =
           let a = and-parts (T (arc arcs j .node)) (E (arc arcs j .target) && live j) p in
           let s : S (arc arcs j .node) ≡ true =
-              ⊎-elim (λ e. absurd (omega (arith, eqb-true (arc arcs j .node) (arc arcs i .target) e, target-later k nodes arcs l i within, nodes-rise k nodes arcs l j i le within)))
-              (λ r. r) (or-cases (eqb (arc arcs j .node) (arc arcs i .target)) (S (arc arcs j .node)) (sym (more (arc arcs j .node)) ∙ a .0))
+          ⊎-elim (λ e. absurd (omega (arith, eqb-true (arc arcs j .node) (arc arcs i .target) e, target-later k nodes arcs l i within, nodes-rise k nodes arcs l j i le within)))
+          (λ r. r) (or-cases (eqb (arc arcs j .node) (arc arcs i .target)) (S (arc arcs j .node)) (sym (more (arc arcs j .node)) ∙ a .0))
           in
           and-from (S (arc arcs j .node)) (E (arc arcs j .target) && live j) s (a .1)
 
@@ -197,12 +201,16 @@ module _ (nodes : List ℕ) (arcs : List Arc) (masks : List ℕ) where
         where
           stays : (n : ℕ) → S n ≡ true → T n ≡ true
           stays n e = more n ∙ or-right (eqb n (arc arcs i .target)) (S n) e
+
           added : (n : ℕ) → n ≡ arc arcs i .target → T n ≡ true
           added n e = more n ∙ or-left (eqb n (arc arcs i .target)) (S n) (eq-eqb n (arc arcs i .target) e)
+
           moved : (p u : ℕ) → p ≡ q → u ≡ v → Through nodes arcs masks p u
           moved p u e e′ = subst (λ x. Through nodes arcs masks x u) (sym e) (subst (Through nodes arcs masks q) (sym e′) through)
+
           shown-now : (p u : ℕ) → p ≡ q → u ≡ v → stands (getD shows p 0) u ≡ true
           shown-now p u e e′ = shows-at p u ∙ or-right (stands (getD shown p 0) u) (eqb p q && eqb u v) (and-from (eqb p q) (eqb u v) (eq-eqb p q e) (eq-eqb u v e′))
+
           shown-still : (p u : ℕ) → stands (getD shown p 0) u ≡ true → stands (getD shows p 0) u ≡ true
           shown-still p u s = shows-at p u ∙ or-left (stands (getD shown p 0) u) (eqb p q && eqb u v) s
 
@@ -220,6 +228,7 @@ module _ (nodes : List ℕ) (arcs : List Arc) (masks : List ℕ) where
       passing n u m s i′ e =
           and-from (S (arc arcs (s .number) .node)) (E (arc arcs (s .number) .target) && live (s .number)) (ap S (s .from) ∙ i′)
           (and-from (E (arc arcs (s .number) .target)) (live (s .number)) (ap E (s .to) ∙ ends m .1 e) (step-live n u m s))
+
       -- so a node on a path to a node that reaches the end is in
       onward : (t : Tuple) (n m : ℕ) → Way nodes arcs masks n m t → S n ≡ true → Ends nodes arcs masks m → S m ≡ true
       onward [] n m w s e = ap S (sym w) ∙ s
@@ -227,6 +236,7 @@ module _ (nodes : List ℕ) (arcs : List Arc) (masks : List ℕ) where
           let st = w .1 in
           let rest : Ends nodes arcs masks (w .0) = (t ++ e .0, way-joined nodes arcs masks t (e .0) (w .0) m (length nodes - 1) (w .2) (e .1)) in
           onward t (w .0) m (w .2) (ap S (sym (st .to)) ∙ f .closed (st .number) (omega (arith, st .there)) (st .there) (passing n u (w .0) st s rest)) e
+
       whole : Through nodes arcs masks p v → stands (getD shown p 0) v ≡ true
       whole h =
           let st = h .step in
@@ -234,5 +244,5 @@ module _ (nodes : List ℕ) (arcs : List Arc) (masks : List ℕ) where
           let into : S (h .node) ≡ true = onward (h .front) 0 (h .node) (h .reached) (f .start) to-end in
           subst (λ x. stands (getD shown x 0) v ≡ true) (h .placed)
           (subst (λ x. stands (getD shown (place nodes x) 0) v ≡ true) (st .from)
-            (subst (λ x. stands (getD shown (place nodes (arc arcs (st .number) .node)) 0) x ≡ true) (st .by)
-              (f .whole (st .number) (omega (arith, st .there)) (st .there) (passing (h .node) v (h .target) st into (h .ends)))))
+          (subst (λ x. stands (getD shown (place nodes (arc arcs (st .number) .node)) 0) x ≡ true) (st .by)
+          (f .whole (st .number) (omega (arith, st .there)) (st .there) (passing (h .node) v (h .target) st into (h .ends)))))

@@ -46,8 +46,8 @@ module _ (nodes : List ℕ) (arcs : List Arc) (masks : List ℕ) where
       let a = arc arcs (s .number) in
       some-at (λ b. eqb (b .node) n && eqb (b .choice) v && path arcs last (b .target) t) _ arcs (s .number) (s .there)
       (and-from (eqb (a .node) n && eqb (a .choice) v) (path arcs last (a .target) t)
-        (and-from (eqb (a .node) n) (eqb (a .choice) v) (eq-eqb (a .node) n (s .from)) (eq-eqb (a .choice) v (s .by)))
-        (ap (λ m. path arcs last m t) (s .to) ∙ way-path t (w .0) last (w .2)))
+      (and-from (eqb (a .node) n) (eqb (a .choice) v) (eq-eqb (a .node) n (s .from)) (eq-eqb (a .choice) v (s .by)))
+      (ap (λ m. path arcs last m t) (s .to) ∙ way-path t (w .0) last (w .2)))
 
   module _ (k : ℕ) (l : Layered k nodes arcs) where
     pub step-place : (n v m : ℕ) → Step nodes arcs masks n v m → place nodes m ≡ suc (place nodes n)
@@ -76,19 +76,32 @@ module _ (nodes : List ℕ) (arcs : List Arc) (masks : List ℕ) where
         let q = and-parts (eqb (a .node) n) (eqb (a .choice) v) (p .0) in
         let here : place nodes n + 0 ≡ place nodes n = omega arith in
         let s : Step nodes arcs masks n v (a .target) = record {
-          number = f .0; there = f .1; from = eqb-true (a .node) n (q .0); by = eqb-true (a .choice) v (q .1); to = refl;
+          number = f .0;
+          there = f .1;
+          from = eqb-true (a .node) n (q .0);
+          by = eqb-true (a .choice) v (q .1);
+          to = refl;
           standing = subst (λ x. stands (getD masks x 0) v ≡ true) here (stood 0 (omega arith));
-        } in
-        (a .target, s, path-way t (a .target) last (p .1) (λ r h.
-          let e : place nodes n + suc r ≡ place nodes (a .target) + r = omega (arith, step-place n v (a .target) s) in
-          subst (λ x. stands (getD masks x 0) (getD t r 0) ≡ true) e (stood (suc r) (omega arith))))
+        } in (
+          a .target,
+          s,
+          path-way t (a .target) last (p .1) (λ r h.
+              let e : place nodes n + suc r ≡ place nodes (a .target) + r = omega (arith, step-place n v (a .target) s) in
+              subst (λ x. stands (getD masks x 0) (getD t r 0) ≡ true) e (stood (suc r) (omega arith))),
+        )
 
     -- each choice of a standing path from node 0 to the last node is on such a path at its place
     pub way-through : (t front : Tuple) (n p : ℕ) → Way nodes arcs masks 0 n front → Way nodes arcs masks n (length nodes - 1) t → p < length t
         → Through nodes arcs masks (place nodes n + p) (getD t p 0)
     way-through [] front n p r w h = absurd (omega arith)
     way-through (v ∷ t) front n zero r w h = record {
-      node = n; target = w .0; placed = omega arith; front = front; reached = r; step = w .1; ends = (t, w .2);
+      node = n;
+      target = w .0;
+      placed = omega arith;
+      front = front;
+      reached = r;
+      step = w .1;
+      ends = (t, w .2);
     }
     way-through (v ∷ t) front n (suc p) r w h =
         let e : place nodes (w .0) + p ≡ place nodes n + suc p = omega (arith, step-place n v (w .0) (w .1)) in

@@ -33,7 +33,12 @@ pub struct DiagramBank<'a> {
 
 impl<'a> DiagramBank<'a> {
     // Refuses a width, pools and diagrams of which no bank can be made.
-    pub fn check(width: usize, places: &[u8], arcs: &[Arc], diagrams: &[Diagram]) -> Result<(), BankError<DiagramFault>>
+    pub fn check(
+        width: usize,
+        places: &[u8],
+        arcs: &[Arc],
+        diagrams: &[Diagram],
+    ) -> Result<(), BankError<DiagramFault>>
         ensures { λ r. ⌜ Answer (bank-says fault-says) (refusal width (now (places .entry)) (now (arcs .entry)) (now (diagrams .entry))) (Unit {0}) (λ _. Unit {0}) r ⌝ }
     {
         if !may_hold(width, diagrams.len()) {
@@ -48,13 +53,28 @@ impl<'a> DiagramBank<'a> {
     }
 
     // The bank of a width, pools and diagrams, or, where the check refuses, one of width 1 and no rules.
-    pub fn make(width: usize, places: &'a [u8], arcs: &'a [Arc], diagrams: &'a [Diagram<'a>]) -> DiagramBank<'a>
+    pub fn make(
+        width: usize,
+        places: &'a [u8],
+        arcs: &'a [Arc],
+        diagrams: &'a [Diagram<'a>],
+    ) -> DiagramBank<'a>
         ensures { λ r. ⌜ Made width (now (places .entry)) (now (arcs .entry)) (now (diagrams .entry)) (r .width) (map (meaning (now (r .arcs))) (now (r .diagrams))) ⌝ }
     {
         if Self::check(width, places, arcs, diagrams).is_ok() {
-            DiagramBank { width, places, arcs, diagrams }
+            DiagramBank {
+                width,
+                places,
+                arcs,
+                diagrams,
+            }
         } else {
-            DiagramBank { width: 1, places: &[], arcs: &[], diagrams: &[] }
+            DiagramBank {
+                width: 1,
+                places: &[],
+                arcs: &[],
+                diagrams: &[],
+            }
         }
     }
 

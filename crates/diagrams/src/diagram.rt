@@ -69,7 +69,12 @@ impl<'a> Diagram<'a> {
     }
 
     // Refuses a diagram that a bank of a width may not hold, over pools of places and arcs.
-    pub(crate) fn check(&self, width: usize, places: &[u8], arcs: &[Arc]) -> Result<(), DiagramFault>
+    pub(crate) fn check(
+        &self,
+        width: usize,
+        places: &[u8],
+        arcs: &[Arc],
+    ) -> Result<(), DiagramFault>
         ensures { λ r. ⌜ Answer fault-says (fault width (now (places .entry)) (now (arcs .entry)) (now (self .entry))) (Unit {0}) (λ _. Unit {0}) r ⌝ }
     {
         if !may_name(width, self.rows) {
@@ -81,10 +86,14 @@ impl<'a> Diagram<'a> {
         let own_nodes = self.nodes.of(places);
         let own_arcs = self.arcs.of(arcs);
         if let Some(node) = first_bad_node(self.rows.len(), own_nodes) {
-            return Err(DiagramFault::BadNode { spot: self.nodes.start + node });
+            return Err(DiagramFault::BadNode {
+                spot: self.nodes.start + node,
+            });
         }
         if let Some(number) = first_bad_arc(own_nodes, own_arcs) {
-            return Err(DiagramFault::BadArc { spot: self.arcs.start + number });
+            return Err(DiagramFault::BadArc {
+                spot: self.arcs.start + number,
+            });
         }
         Ok(())
     }

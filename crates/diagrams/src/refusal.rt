@@ -22,7 +22,10 @@ impl DiagramFault {
     pub(crate) fn of_rule(self, number: usize) -> BankError<DiagramFault>
         ensures { λ r. ⌜ r ≡ BankError.Rule number self ⌝ }
     {
-        BankError::Rule { number, fault: self }
+        BankError::Rule {
+            number,
+            fault: self,
+        }
     }
 }
 

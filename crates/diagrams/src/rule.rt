@@ -14,7 +14,10 @@ fn node_fits(arity: usize, nodes: &[u8], node: usize) -> bool
 {
     let place = nodes[node] as usize;
     let before = nodes[node.saturating_sub(1)] as usize;
-    place <= arity && before <= place && (place == 0) == (node == 0) && (place == arity) == (node + 1 == nodes.len())
+    place <= arity
+        && before <= place
+        && (place == 0) == (node == 0)
+        && (place == arity) == (node + 1 == nodes.len())
 }
 
 // Whether one arc comes before another.

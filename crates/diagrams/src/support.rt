@@ -27,7 +27,12 @@ fn masks_by_place(names: &[usize], rows: &[u64]) -> [u64; MAX_ARITY]
 }
 
 // The choices that have support at each place of a diagram, given by the rows that it names, its nodes and its arcs.
-pub(crate) fn supported(names: &[usize], nodes: &[u8], arcs: &[Arc], rows: &[u64]) -> [u64; MAX_ARITY]
+pub(crate) fn supported(
+    names: &[usize],
+    nodes: &[u8],
+    arcs: &[Arc],
+    rows: &[u64],
+) -> [u64; MAX_ARITY]
     requires { ⌜ Layered (length (now names)) (now nodes) (now arcs) ⌝ ∗ ⌜ ((p : ℕ) → p < length (now names) → getD (now names) p 0 < length (now rows)) ⌝ }
     ensures { λ r. ⌜ ((p v : ℕ) → p < length (now (names .entry)) → Decides (stands (getD r p 0) v) (SupportAt (now (rows .entry)) (rule (now (names .entry)) (length (now (nodes .entry))) (now (arcs .entry))) p v)) ⌝ }
 {

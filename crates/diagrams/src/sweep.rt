@@ -18,7 +18,10 @@ fn stands_at(nodes: &[u8], masks: &[u64], arc: Arc) -> bool
     requires { ⌜ arc .node < length (now nodes) ⌝ ∗ ⌜ place (now nodes) (arc .node) < length (now masks) ⌝ }
     ensures { λ r. ⌜ r ≡ stands (getD (now (masks .entry)) (place (now (nodes .entry)) (arc .node)) 0) (arc .choice) ⌝ }
 {
-    contains(masks[nodes[arc.node as usize] as usize], arc.choice as usize)
+    contains(
+        masks[nodes[arc.node as usize] as usize],
+        arc.choice as usize,
+    )
 }
 
 // Whether an arc leads by a standing choice to a node that is in a set.
@@ -54,7 +57,12 @@ pub(crate) fn reaching_end(nodes: &[u8], arcs: &[Arc], masks: &[u64]) -> NodeSet
 }
 
 // The choices on the paths of standing choices from node 0 to the last node, place by place: a sweep from the first arc to the last.
-pub(crate) fn on_paths(nodes: &[u8], arcs: &[Arc], masks: &[u64], ends: &NodeSet) -> [u64; MAX_ARITY]
+pub(crate) fn on_paths(
+    nodes: &[u8],
+    arcs: &[Arc],
+    masks: &[u64],
+    ends: &NodeSet,
+) -> [u64; MAX_ARITY]
     requires { ⌜ Layered (length (now masks)) (now nodes) (now arcs) ⌝ ∗ ⌜ ((n : ℕ) → Decides (member (now ends .words) n) (Ends (now nodes) (now arcs) (now masks) n)) ⌝ }
     ensures { λ r. ⌜ ((p v : ℕ) → Decides (stands (getD r p 0) v) (Through (now (nodes .entry)) (now (arcs .entry)) (now (masks .entry)) p v)) ⌝ }
 {

@@ -68,8 +68,14 @@ module _ (s : Sheet) (d : Difference) where
   place-x a v k =
       decides-like (stands a v)
       (λ m. record { placed = omega arith; tuple = v ∷ m .1 .0 ∷ []; live = live-pair v (m .1 .0) (m .0) (m .1 .1) (m .1 .2); there = refl })
-      (λ h. (support-stands s (meaning d) 0 v h, (getD (h .tuple) 1 0, h .live .standing 1 (omega arith),
-        subst (λ x. relates (d .relation) (d .offset) x (getD (h .tuple) 1 0) ≡ true) (h .there) (h .live .permitted))))
+      (λ h. (
+        support-stands s (meaning d) 0 v h,
+        (
+          getD (h .tuple) 1 0,
+          h .live .standing 1 (omega arith),
+          subst (λ x. relates (d .relation) (d .offset) x (getD (h .tuple) 1 0) ≡ true) (h .there) (h .live .permitted),
+        ),
+      ))
       (k v)
 
   place-y : (b v : ℕ) → Kept Partner-of-y (row s (d .y)) b → Decides (stands b v) (SupportAt s (meaning d) 1 v)
@@ -77,8 +83,14 @@ module _ (s : Sheet) (d : Difference) where
   place-y b v k =
       decides-like (stands b v)
       (λ m. record { placed = omega arith; tuple = m .1 .0 ∷ v ∷ []; live = live-pair (m .1 .0) v (m .1 .1) (m .0) (m .1 .2); there = refl })
-      (λ h. (support-stands s (meaning d) 1 v h, (getD (h .tuple) 0 0, h .live .standing 0 (omega arith),
-        subst (λ y. relates (d .relation) (d .offset) (getD (h .tuple) 0 0) y ≡ true) (h .there) (h .live .permitted))))
+      (λ h. (
+        support-stands s (meaning d) 1 v h,
+        (
+          getD (h .tuple) 0 0,
+          h .live .standing 0 (omega arith),
+          subst (λ y. relates (d .relation) (d .offset) (getD (h .tuple) 0 0) y ≡ true) (h .there) (h .live .permitted),
+        ),
+      ))
       (k v)
 
   pub pair-shows : (before : List ℕ) (a b : ℕ) → 2 ≤ length before
@@ -94,14 +106,18 @@ module _ (s : Sheet) (d : Difference) where
     where
       long : length (set before 0 a) ≡ length before
       long = length-set before 0 a
+
       at-x : getD (set (set before 0 a) 1 b) 0 0 ≡ a
       at-x = getD-set-other (set before 0 a) 1 0 b 0 (λ e. omega arith) ∙ getD-set-same before 0 a 0 (omega arith)
+
       at-y : getD (set (set before 0 a) 1 b) 1 0 ≡ b
       at-y = getD-set-same (set before 0 a) 1 b 0 (omega (arith, long))
+
       each : (p v : ℕ) → p < 2 → Decides (stands (getD (set (set before 0 a) 1 b) p 0) v) (SupportAt s (meaning d) p v)
       each zero v k = subst (λ m. Decides (stands m v) (SupportAt s (meaning d) 0 v)) (sym at-x) (place-x a v ka)
       each (suc zero) v k = subst (λ m. Decides (stands m v) (SupportAt s (meaning d) 1 v)) (sym at-y) (place-y b v kb)
       each (suc (suc p)) v k = absurd (omega arith)
+
       rest : (p : ℕ) → 2 ≤ p → getD (set (set before 0 a) 1 b) p 0 ≡ getD before p 0
       rest p k = getD-set-other (set before 0 a) 1 p b 0 (λ e. omega arith) ∙ getD-set-other before 0 p a 0 (λ e. omega arith)
 

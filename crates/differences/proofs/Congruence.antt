@@ -46,14 +46,19 @@ same-remainder m w a k z e =
   where
     over : z -ℤ pos w ≡ pos (natAbs (z -ℤ pos w)) → a % m ≡ (w + natAbs (z -ℤ pos w)) % m
     over s = let sum : a ≡ (w + natAbs (z -ℤ pos w)) + k * m = omega (arith, ints) in ap (λ n. n % m) sum ∙ add-mul-mod-self-right (w + natAbs (z -ℤ pos w)) k m
+
     under : (z -ℤ pos w) +ℤ pos (natAbs (z -ℤ pos w)) ≡ pos 0 → w % m ≡ (a + natAbs (z -ℤ pos w)) % m
     under s = let sum : w + k * m ≡ a + natAbs (z -ℤ pos w) = omega (arith, ints) in sym (add-mul-mod-self-right w k m) ∙ ap (λ n. n % m) sum
+
     above : z -ℤ pos w ≡ pos (natAbs (z -ℤ pos w)) → natAbs (z -ℤ pos w) % m ≡ 0 → a % m ≡ w % m
     above s t = over s ∙ step-keeps w (natAbs (z -ℤ pos w)) m t
+
     below : (z -ℤ pos w) +ℤ pos (natAbs (z -ℤ pos w)) ≡ pos 0 → natAbs (z -ℤ pos w) % m ≡ 0 → a % m ≡ w % m
     below s t = sym (under s ∙ step-keeps a (natAbs (z -ℤ pos w)) m t)
+
     from-above : z -ℤ pos w ≡ pos (natAbs (z -ℤ pos w)) → a % m ≡ w % m → natAbs (z -ℤ pos w) % m ≡ 0
     from-above s t = kept-divides w (natAbs (z -ℤ pos w)) m (sym (over s) ∙ t)
+
     from-below : (z -ℤ pos w) +ℤ pos (natAbs (z -ℤ pos w)) ≡ pos 0 → a % m ≡ w % m → natAbs (z -ℤ pos w) % m ≡ 0
     from-below s t = kept-divides a (natAbs (z -ℤ pos w)) m (sym (under s) ∙ sym t)
 

@@ -39,8 +39,10 @@ module _ (n m : ℕ) (z : ℤ) (small : m < 2 ^ n) where
     where
       apart : (w : ℕ) → not (same z (pos w)) ≡ not (eqb k w)
       apart w = ap not (ap (λ x. same x (pos w)) e ∙ same-pos k w)
+
       there : (w : ℕ) × (stands r w ≡ true) → Finds Another z m
       there st = let stood = without-stood m k r (st .0) out (st .1) in (st .0, stood .0, apart (st .0) ∙ grind (arith, tells))
+
       back : Finds Another z m → (w : ℕ) × (stands r w ≡ true)
       back f =
           let differ : k ≡ f .0 → ⊥ = eqb-false k (f .0) (not-true (eqb k (f .0)) (sym (apart (f .0)) ∙ f .2)) in
@@ -66,8 +68,10 @@ module _ (n m : ℕ) (z : ℤ) (small : m < 2 ^ n) where
     where
       above : (w : ℕ) → leZ z (pos w) ≡ leb k w
       above w = ap (λ x. leZ x (pos w)) e
+
       there : (v : ℕ) × (stands (m / 2 ^ k) v ≡ true) → Finds AtLeast z m
       there st = (k + st .0, sym (stands-shr m k (st .0)) ∙ st .1, above (k + st .0) ∙ le-leb k (k + st .0) (omega arith))
+
       back : Finds AtLeast z m → (v : ℕ) × (stands (m / 2 ^ k) v ≡ true)
       back f =
           let h : k ≤ f .0 = leb-true k (f .0) (sym (above (f .0)) ∙ f .2) in
@@ -84,6 +88,7 @@ at-most-lowest m v z b low e = ((λ t. (v, low .here, sym e ∙ t)), (λ f. e �
   where
     not-under : (w : ℕ) → stands m w ≡ true → w < v → ⊥
     not-under w s h = both-ways (stands m w) (low .below w h) s
+
     lower : (w : ℕ) → (w < v → ⊥) → leZ (pos w) z ≡ true → leZ (pos v) z ≡ true
     lower w h t = grind (arith, ints)
 

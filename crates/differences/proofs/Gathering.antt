@@ -31,6 +31,7 @@ module _ (mask m : ℕ) where
     where
       added : stands (bitOr left (2 ^ (v % m))) (v % m) ≡ true
       added = stands-or left (2 ^ (v % m)) (v % m) ∙ or-right (stands left (v % m)) (stands (2 ^ (v % m)) (v % m)) (stands-bit (v % m) (v % m) ∙ eq-eqb (v % m) (v % m) refl)
+
       stays : (u : ℕ) → stands left u ≡ true → stands (bitOr left (2 ^ (v % m))) u ≡ true
       stays u l = stands-or left (2 ^ (v % m)) u ∙ or-left (stands left u) (stands (2 ^ (v % m)) u) l
 

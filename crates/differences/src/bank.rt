@@ -49,7 +49,10 @@ impl<'a> DifferenceBank<'a> {
         if Self::check(width, differences).is_ok() {
             DifferenceBank { width, differences }
         } else {
-            DifferenceBank { width: 1, differences: &[] }
+            DifferenceBank {
+                width: 1,
+                differences: &[],
+            }
         }
     }
 }

@@ -27,10 +27,24 @@ fn partnered(own: u64, others: u64, shift: i32, relation: Relation, bound: Seek)
         Relation::AtMost => bound,
         Relation::Congruent { modulus } => {
             let left = remainders(others, modulus);
-            return keep(own, &Residue { left, shift, modulus });
+            return keep(
+                own,
+                &Residue {
+                    left,
+                    shift,
+                    modulus,
+                },
+            );
         }
     };
-    keep(own, &Partner { others, shift, seek })
+    keep(
+        own,
+        &Partner {
+            others,
+            shift,
+            seek,
+        },
+    )
 }
 
 // The choices x of the first row and the choices y of the second that relate to some choice of the other.

@@ -24,17 +24,30 @@ use show::masks_text;
 
 // A difference between the rows 0 and 1.
 fn between(relation: Relation, offset: i32) -> Difference {
-    Difference { x: 0, y: 1, offset, relation }
+    Difference {
+        x: 0,
+        y: 1,
+        offset,
+        relation,
+    }
 }
 
 // Prints what the check of a bank answers, and what the bank that is made has.
-fn print_bank(rt: &LibcRuntime, label: &str, width: usize, differences: &[Difference]) -> Result<(), AnyError> {
+fn print_bank(
+    rt: &LibcRuntime,
+    label: &str,
+    width: usize,
+    differences: &[Difference],
+) -> Result<(), AnyError> {
     let heap = rt.alloc();
     let text = answered(heap, &DifferenceBank::check(width, differences))?;
     let bank = DifferenceBank::make(width, differences);
     let made = bank.width();
     let count = bank.rule_count();
-    println!(rt, "{label}: {text}; made with width {made} and {count} rules")?;
+    println!(
+        rt,
+        "{label}: {text}; made with width {made} and {count} rules"
+    )?;
     Ok(())
 }
 
@@ -44,10 +57,30 @@ fn print_bounds(rt: &LibcRuntime) -> Result<(), AnyError> {
     print_bank(rt, "offset -63", 2, &[between(Relation::AtMost, -63)])?;
     print_bank(rt, "offset 64", 2, &[between(Relation::Equal, 64)])?;
     print_bank(rt, "offset -64", 2, &[between(Relation::AtMost, -64)])?;
-    print_bank(rt, "modulus 1", 2, &[between(Relation::Congruent { modulus: 1 }, 0)])?;
-    print_bank(rt, "modulus 64", 2, &[between(Relation::Congruent { modulus: 64 }, 0)])?;
-    print_bank(rt, "modulus 0", 2, &[between(Relation::Congruent { modulus: 0 }, 0)])?;
-    print_bank(rt, "modulus 65", 2, &[between(Relation::Congruent { modulus: 65 }, 0)])
+    print_bank(
+        rt,
+        "modulus 1",
+        2,
+        &[between(Relation::Congruent { modulus: 1 }, 0)],
+    )?;
+    print_bank(
+        rt,
+        "modulus 64",
+        2,
+        &[between(Relation::Congruent { modulus: 64 }, 0)],
+    )?;
+    print_bank(
+        rt,
+        "modulus 0",
+        2,
+        &[between(Relation::Congruent { modulus: 0 }, 0)],
+    )?;
+    print_bank(
+        rt,
+        "modulus 65",
+        2,
+        &[between(Relation::Congruent { modulus: 65 }, 0)],
+    )
 }
 
 // Banks at the limits of their size.
@@ -73,8 +106,18 @@ fn print_faults(rt: &LibcRuntime) -> Result<(), AnyError> {
     print_bank(rt, "row 256 of width 256", 256, &[past])?;
     print_bank(rt, "one row twice", 2, &[fine, twice])?;
     print_bank(rt, "offset 64 and a row past the width", 2, &[both])?;
-    print_bank(rt, "an offset in rule 0, a row twice in rule 1", 2, &[far, twice])?;
-    print_bank(rt, "a row twice in rule 1, an offset in rule 2", 2, &[fine, twice, far])
+    print_bank(
+        rt,
+        "an offset in rule 0, a row twice in rule 1",
+        2,
+        &[far, twice],
+    )?;
+    print_bank(
+        rt,
+        "a row twice in rule 1, an offset in rule 2",
+        2,
+        &[fine, twice, far],
+    )
 }
 
 fn main(rt: LibcRuntime) -> Result<(), AnyError> {
@@ -105,7 +148,15 @@ fn print_rows(rt: &LibcRuntime) -> Result<(), AnyError> {
 
 // Calls of a bank of two rules and width 3, and the masks that they leave.
 fn print_calls(rt: &LibcRuntime) -> Result<(), AnyError> {
-    let differences = [between(Relation::Equal, 1), Difference { x: 1, y: 2, offset: 0, relation: Relation::AtMost }];
+    let differences = [
+        between(Relation::Equal, 1),
+        Difference {
+            x: 1,
+            y: 2,
+            offset: 0,
+            relation: Relation::AtMost,
+        },
+    ];
     let bank = DifferenceBank::make(3, &differences);
     for rule in 0..3 {
         let arity = given(rt.alloc(), bank.arity(rule))?;
@@ -125,12 +176,21 @@ fn print_calls(rt: &LibcRuntime) -> Result<(), AnyError> {
 }
 
 // Prints what a support answers and leaves in masks that all hold choice 7 before.
-fn print_support<B: Bank>(rt: &LibcRuntime, bank: &B, rule: usize, rows: &[u64], masks: usize) -> Result<(), AnyError> {
+fn print_support<B: Bank>(
+    rt: &LibcRuntime,
+    bank: &B,
+    rule: usize,
+    rows: &[u64],
+    masks: usize,
+) -> Result<(), AnyError> {
     let heap = rt.alloc();
     let count = rows.len();
     let mut memory = vec![in heap; only(7); masks]?;
     let text = answered(heap, &bank.support(rule, rows, &mut memory))?;
     let left = masks_text(heap, memory.as_slice())?;
-    println!(rt, "support of rule {rule} on {count} rows with {masks} masks: {text}, masks {left}")?;
+    println!(
+        rt,
+        "support of rule {rule} on {count} rows with {masks} masks: {text}, masks {left}"
+    )?;
     Ok(())
 }

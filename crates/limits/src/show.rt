@@ -6,7 +6,10 @@ use std::alloc::AllocError;
 use std::alloc::Global;
 
 // An answer as "accepted", or as its refusal: the number, and the values that it carries.
-pub(crate) fn answered<T, E: Numbered>(heap: Global, answer: &Result<T, E>) -> Result<String, AllocError> {
+pub(crate) fn answered<T, E: Numbered>(
+    heap: Global,
+    answer: &Result<T, E>,
+) -> Result<String, AllocError> {
     match answer {
         Ok(_) => String::from_str(heap, "accepted"),
         Err(refusal) => refused(heap, refusal),
@@ -14,7 +17,10 @@ pub(crate) fn answered<T, E: Numbered>(heap: Global, answer: &Result<T, E>) -> R
 }
 
 // An answer as its number, or as its refusal.
-pub(crate) fn given<E: Numbered + Drop>(heap: Global, answer: Result<usize, E>) -> Result<String, AllocError> {
+pub(crate) fn given<E: Numbered + Drop>(
+    heap: Global,
+    answer: Result<usize, E>,
+) -> Result<String, AllocError> {
     match answer {
         Ok(number) => format!(heap, "{number}"),
         Err(refusal) => refused(heap, &refusal),
@@ -25,7 +31,10 @@ pub(crate) fn given<E: Numbered + Drop>(heap: Global, answer: Result<usize, E>) 
 fn refused<E: Numbered>(heap: Global, refusal: &E) -> Result<String, AllocError> {
     let number = refusal.number();
     match (refusal.value(0), refusal.value(1)) {
-        (Some(rule), Some(spot)) => format!(heap, "refused by {number} at rule {rule}, spot {spot}"),
+        (Some(rule), Some(spot)) => format!(
+            heap,
+            "refused by {number} at rule {rule}, spot {spot}"
+        ),
         _ => format!(heap, "refused by {number}"),
     }
 }

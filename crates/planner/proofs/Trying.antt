@@ -35,14 +35,17 @@ module _ (s : Sheet) (Rs : List Rule) (n : ℕ) (front : Plan) where
     where
       long′ : length (front ++ w ∷ []) ≡ length front + 1
       long′ = length-push front w
+
       shorter : take (length front) (g .plan) ≡ front
       shorter =
           sym (take-take (length front) (length (front ++ w ∷ [])) (g .plan) (omega (arith, long′))) ∙ ap (take (length front)) (g .begins)
           ∙ take-at front (w ∷ []) (length front) refl
+
       last : getD (g .plan) (length front) 0 ≡ w
       last =
           sym (getD-take (length (front ++ w ∷ [])) (g .plan) (length front) 0 (omega (arith, long′))) ∙ ap (λ t. getD t (length front) 0) (g .begins)
           ∙ getD-push front w 0 (length front) refl
+
       here : (r : ℕ) → r ≡ length front → stands (row s r) (getD (g .plan) r 0) ≡ true
       here r e = ap (λ x. stands (row s x) (getD (g .plan) x 0)) e ∙ ap (stands (row s (length front))) last ∙ st
 
@@ -52,15 +55,18 @@ module _ (s : Sheet) (Rs : List Rule) (n : ℕ) (front : Plan) where
       let w = getD (g .plan) (length front) 0 in
       let inside : length front < length (g .plan) = omega (arith, g .long) in
       let pushed : take (length (front ++ w ∷ [])) (g .plan) ≡ front ++ w ∷ [] =
-          ap (λ k. take k (g .plan)) (length-push front w) ∙ take-more (g .plan) (length front) 0 inside ∙ ap (λ t. t ++ w ∷ []) (g .begins)
-      in
-      (w, g .standing (length front) (omega arith) h, record {
-        plan = g .plan;
-        long = g .long;
-        begins = pushed;
-        standing = λ r k l. g .standing r (omega (arith, length-push front w)) l;
-        meets = g .meets;
-      })
+      ap (λ k. take k (g .plan)) (length-push front w) ∙ take-more (g .plan) (length front) 0 inside ∙ ap (λ t. t ++ w ∷ []) (g .begins)
+      in (
+        w,
+        g .standing (length front) (omega arith) h,
+        record {
+          plan = g .plan;
+          long = g .long;
+          begins = pushed;
+          standing = λ r k l. g .standing r (omega (arith, length-push front w)) l;
+          meets = g .meets;
+        },
+      )
 
   -- a choice of the next row is still to be tried, or does not go on
   pub record Trying (rest : ℕ) : Type 0 where
@@ -86,7 +92,7 @@ pub whole-goes-on : (s : Sheet) (Rs : List Rule) (plan : Plan) (n : ℕ) → n �
 whole-goes-on s Rs plan n e m = record {
   plan = plan;
   long = refl;
-  begins = ap (λ k. take k plan) (length-take-le n plan (omega arith)) ;
+  begins = ap (λ k. take k plan) (length-take-le n plan (omega arith));
   standing = λ r h k. absurd (omega (arith, length-take-le n plan (omega arith)));
   meets = m;
 }
@@ -96,6 +102,7 @@ whole-meets s Rs plan n e g = subst (λ p. All (Meets p) Rs) same (g .meets)
   where
     long′ : length (take n plan) ≡ n
     long′ = length-take-le n plan (omega arith)
+
     same : g .plan ≡ plan
     same = sym (take-all n (g .plan) (omega (arith, g .long))) ∙ ap (λ k. take k (g .plan)) (sym long′) ∙ g .begins ∙ take-all n plan (omega arith)
 

@@ -5,6 +5,9 @@ use banks::pair::Pair;
 use banks::pair::PairBank;
 use banks::questions::supported;
 use banks::questions::supported_choices;
+use banks::refusal::BankErrorNumbered;
+use banks::refusal::CallErrorNumbered;
+use banks::refusal::PairErrorNumbered;
 use diagrams::bank::DiagramBank;
 use diagrams::bank::DiagramBankBank;
 use diagrams::diagram::Diagram;
@@ -13,9 +16,6 @@ use differences::bank::DifferenceBank;
 use differences::bank::DifferenceBankBank;
 use differences::difference::Difference;
 use differences::refusal::DifferenceFaultNumbered;
-use banks::refusal::BankErrorNumbered;
-use banks::refusal::CallErrorNumbered;
-use banks::refusal::PairErrorNumbered;
 use rows::mask::count;
 use rows::mask::only;
 use rows::refusal::RowErrorNumbered;
@@ -48,32 +48,53 @@ fn print_orders(rt: &LibcRuntime, orders: &[u64]) -> Result<(), AnyError> {
 }
 
 // Prints which hours have support under a rule, at each of its places.
-fn print_support<B: Bank>(rt: &LibcRuntime, bank: &B, name: &str, rule: usize, orders: &[u64]) -> Result<(), AnyError> {
+fn print_support<B: Bank>(
+    rt: &LibcRuntime,
+    bank: &B,
+    name: &str,
+    rule: usize,
+    orders: &[u64],
+) -> Result<(), AnyError> {
     let mut masks = [0u64; MAX_ARITY];
     told(rt.alloc(), bank.support(rule, orders, &mut masks))?;
     let arity = told(rt.alloc(), bank.arity(rule))?;
     for (place, mask) in masks.iter().take(arity).enumerate() {
         let order = told(rt.alloc(), bank.row_at(rule, place))?;
         let shown = hours(rt.alloc(), *mask)?;
-        println!(rt, "  rule {rule}, {name}: order {order} has support at {shown}")?;
+        println!(
+            rt,
+            "  rule {rule}, {name}: order {order} has support at {shown}"
+        )?;
     }
     Ok(())
 }
 
 // Prints whether each order may go: whether an hour of it has support in every rule.
-fn print_orders_that_may_go<B: Bank>(rt: &LibcRuntime, bank: &B, orders: &[u64]) -> Result<(), AnyError> {
+fn print_orders_that_may_go<B: Bank>(
+    rt: &LibcRuntime,
+    bank: &B,
+    orders: &[u64],
+) -> Result<(), AnyError> {
     for (order, mask) in orders.iter().enumerate() {
         let left = told(rt.alloc(), supported_choices(bank, orders, order))?;
         let free = count(*mask);
         let supported = count(left);
         let go = word(left != 0);
-        println!(rt, "  order {order} may go: {go}, support at {supported} of {free} hours")?;
+        println!(
+            rt,
+            "  order {order} may go: {go}, support at {supported} of {free} hours"
+        )?;
     }
     Ok(())
 }
 
 // Prints one sheet: its orders, the support under each rule, and what follows.
-fn print_sheet(rt: &LibcRuntime, title: &str, orders: &[u64], differences: &[Difference]) -> Result<(), AnyError> {
+fn print_sheet(
+    rt: &LibcRuntime,
+    title: &str,
+    orders: &[u64],
+    differences: &[Difference],
+) -> Result<(), AnyError> {
     println!(rt, "{title}")?;
     print_orders(rt, orders)?;
     told(rt.alloc(), DifferenceBank::check(orders.len(), differences))?;
@@ -91,7 +112,12 @@ fn print_sheet(rt: &LibcRuntime, title: &str, orders: &[u64], differences: &[Dif
 }
 
 // Prints the support of two orders under a bank of one table and a bank of one diagram, and under both as one bank.
-fn print_both<A: Bank + Drop, B: Bank + Drop>(rt: &LibcRuntime, table: A, diagram: B, orders: &[u64]) -> Result<(), AnyError> {
+fn print_both<A: Bank + Drop, B: Bank + Drop>(
+    rt: &LibcRuntime,
+    table: A,
+    diagram: B,
+    orders: &[u64],
+) -> Result<(), AnyError> {
     print_support(rt, &table, "the table", 0, orders)?;
     print_support(rt, &diagram, "the diagram", 0, orders)?;
     let (both, answer) = Pair::new(table, diagram);
@@ -109,8 +135,25 @@ fn print_makers(rt: &LibcRuntime, orders: &[u64]) -> Result<(), AnyError> {
     let arcs = [arc(0, 9, 1), arc(0, 10, 2), arc(1, 10, 3), arc(2, 11, 3)];
     print_both(
         rt,
-        TableBank::make(2, &[Table { rows: &[0, 1], start: 0, lines: 2 }], &[9, STAR, 10, 11]),
-        DiagramBank::make(2, &[0, 1, 1, 2], &arcs, &[Diagram { rows: &[0, 1], nodes: four, arcs: four }]),
+        TableBank::make(
+            2,
+            &[Table {
+                rows: &[0, 1],
+                start: 0,
+                lines: 2,
+            }],
+            &[9, STAR, 10, 11],
+        ),
+        DiagramBank::make(
+            2,
+            &[0, 1, 1, 2],
+            &arcs,
+            &[Diagram {
+                rows: &[0, 1],
+                nodes: four,
+                arcs: four,
+            }],
+        ),
         orders,
     )
 }
@@ -120,10 +163,24 @@ fn run(rt: &LibcRuntime) -> Result<(), AnyError> {
     let one = only(9);
     let two = only(9) | only(10);
     let pair = [not_the_same_hour(0, 1)];
-    let three = [not_the_same_hour(0, 1), not_the_same_hour(0, 2), not_the_same_hour(1, 2)];
-    print_sheet(rt, "One saw, two orders and one free hour", &[one, one], &pair)?;
+    let three = [
+        not_the_same_hour(0, 1),
+        not_the_same_hour(0, 2),
+        not_the_same_hour(1, 2),
+    ];
+    print_sheet(
+        rt,
+        "One saw, two orders and one free hour",
+        &[one, one],
+        &pair,
+    )?;
     print_sheet(rt, "A second free hour", &[two, two], &pair)?;
-    print_sheet(rt, "A third order on the same two hours", &[two, two, two], &three)?;
+    print_sheet(
+        rt,
+        "A third order on the same two hours",
+        &[two, two, two],
+        &three,
+    )?;
     print_makers(rt, &[two, two])
 }
 

@@ -11,7 +11,12 @@ use rows::walk::Walk;
 use rows::walk::WalkIterator;
 
 // Whether the choices of a plan before a row go on to a plan that meets every rule. Tries the choices of each further row in turn.
-pub(crate) fn goes_on<B: Bank>(bank: &B, rows: &[u64], plan: &mut [u8], from: usize) -> Result<bool, CallError>
+pub(crate) fn goes_on<B: Bank>(
+    bank: &B,
+    rows: &[u64],
+    plan: &mut [u8],
+    from: usize,
+) -> Result<bool, CallError>
     requires fronted { ⌜ from ≤ length (now plan) ⌝ }
     requires chosen { ⌜ ((r : ℕ) → r < from → getD (now plan) r 0 < choices) ⌝ }
     ensures answer { λ r. ⌜ GoesOnAnswer (wide (now (bank .entry))) (rules (now (bank .entry))) (now (rows .entry)) from (now (plan .entry)) r ⌝ }
@@ -36,7 +41,11 @@ pub(crate) fn goes_on<B: Bank>(bank: &B, rows: &[u64], plan: &mut [u8], from: us
 }
 
 // Whether some plan stands on the rows and meets every rule. The memory is where plans are tried.
-pub(crate) fn plan_exists<B: Bank>(bank: &B, rows: &[u64], memory: &mut [u8]) -> Result<bool, CallError>
+pub(crate) fn plan_exists<B: Bank>(
+    bank: &B,
+    rows: &[u64],
+    memory: &mut [u8],
+) -> Result<bool, CallError>
     requires { ⌜ length (now memory) ≡ length (now rows) ⌝ }
     ensures { λ r. ⌜ ExistsAnswer (wide (now (bank .entry))) (rules (now (bank .entry))) (now (rows .entry)) r ⌝ }
 {

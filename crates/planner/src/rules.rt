@@ -22,5 +22,9 @@ pub(crate) fn not_the_same_hour(x: usize, y: usize) -> Difference
 pub(crate) fn arc(node: u16, choice: u8, target: u16) -> Arc
     ensures { λ r. ⌜ r ≡ record { node = node; choice = choice; target = target } ⌝ }
 {
-    Arc { node, choice, target }
+    Arc {
+        node,
+        choice,
+        target,
+    }
 }

@@ -17,9 +17,10 @@ module _ (Passes : ℕ → Type 0) (mask : ℕ) where
   keeping-none = record { sound = λ w s. (s, inr s); whole = λ w s _. s }
 
   pub keeping-all : (rest passing : ℕ) → rest ≡ 0 → Keeping Passes mask rest passing → Kept Passes mask passing
-  keeping-all rest passing e k w =
-      ((λ s. (k .sound w s .0, ⊎-elim (λ p. p) (λ r. absurd (both-ways (stands 0 w) (stands-zero w) (subst (λ x. stands x w ≡ true) e r))) (k .sound w s .1))),
-      (λ m. k .whole w (m .0) (m .1)))
+  keeping-all rest passing e k w = (
+    (λ s. (k .sound w s .0, ⊎-elim (λ p. p) (λ r. absurd (both-ways (stands 0 w) (stands-zero w) (subst (λ x. stands x w ≡ true) e r))) (k .sound w s .1))),
+    (λ m. k .whole w (m .0) (m .1)),
+  )
 
   module _ (rest after v : ℕ) (walked : Without v rest after) where
     still : (w : ℕ) → Passes w ⊎ (stands rest w ≡ true) → (w ≡ v → Passes w) → Passes w ⊎ (stands after w ≡ true)

@@ -121,6 +121,7 @@ stands-bit k v = ⊎-elim above below (cases-lt k v)
   where
     above : k < v → stands (2 ^ k) v ≡ eqb v k
     above h = ap (λ x. eqb (x % 2) 1) (div-eq-of-lt (pow-lt h)) ∙ sym (ne-eqb v k (λ e. omega arith))
+
     below : v ≤ k → stands (2 ^ k) v ≡ eqb v k
     below h =
         let apart : k ≡ (k - v) + v = omega arith in
@@ -133,8 +134,8 @@ pub same-mask : (n a b : ℕ) → a < 2 ^ n → b < 2 ^ n → ((v : ℕ) → sta
 same-mask zero a b p q h = omega arith
 same-mask (suc n) a b p q h =
     let high : a / 2 ≡ b / 2 =
-        same-mask n (a / 2) (b / 2) (shr-lt n 1 (subst (λ k. a < 2 ^ k) (sym (add-one n)) p)) (shr-lt n 1 (subst (λ k. b < 2 ^ k) (sym (add-one n)) q))
-        (λ v. half-stands a v ∙ h (suc v) ∙ sym (half-stands b v))
+    same-mask n (a / 2) (b / 2) (shr-lt n 1 (subst (λ k. a < 2 ^ k) (sym (add-one n)) p)) (shr-lt n 1 (subst (λ k. b < 2 ^ k) (sym (add-one n)) q))
+    (λ v. half-stands a v ∙ h (suc v) ∙ sym (half-stands b v))
     in
     let low : a % 2 ≡ b % 2 = same-digit (a % 2) (b % 2) (digit-lt a) (digit-lt b) (sym (lowest-digit a) ∙ h 0 ∙ lowest-digit b) in
     sym (div-add-mod' a 2) ∙ ap (λ x. x * 2 + a % 2) high ∙ ap (λ x. b / 2 * 2 + x) low ∙ div-add-mod' b 2
@@ -186,9 +187,10 @@ not-zero (suc m) v s = omega arith
 
 -- that a mask is not 0 says that some choice stands in it
 pub some-decides : (n m : ℕ) → m < 2 ^ n → Decides (not (eqb m 0)) ((v : ℕ) × (stands m v ≡ true))
-some-decides n m h =
-    ((λ t. some-stands n m (⊎-elim (λ e. absurd (both-ways (eqb m 0) (not-true (eqb m 0) t) (eq-eqb m 0 e))) (λ ne. omega arith) (cases-eq m 0)) h),
-    (λ st. ap not (ne-eqb m 0 (λ e. omega (arith, not-zero m (st .0) (st .1))))))
+some-decides n m h = (
+  (λ t. some-stands n m (⊎-elim (λ e. absurd (both-ways (eqb m 0) (not-true (eqb m 0) t) (eq-eqb m 0 e))) (λ ne. omega arith) (cases-eq m 0)) h),
+  (λ st. ap not (ne-eqb m 0 (λ e. omega (arith, not-zero m (st .0) (st .1))))),
+)
 
 -- how many choices stand is the number of ones
 ones-from : (n a m : ℕ) → m / 2 ^ a < 2 ^ n → length (kept-by (stands m) (counting a n)) ≡ ones (m / 2 ^ a)
@@ -203,9 +205,9 @@ ones-from (suc n) a m h =
     one-more x a rest e =
         ⊎-elim
         (λ t. ap length (cond-true (eqb (x % 2) 1) (a ∷ rest) rest t) ∙ ap suc e
-          ∙ sym (ones-step x ∙ ap (λ d. d + ones (x / 2)) (eqb-true (x % 2) 1 t) ∙ one-add (ones (x / 2))))
+        ∙ sym (ones-step x ∙ ap (λ d. d + ones (x / 2)) (eqb-true (x % 2) 1 t) ∙ one-add (ones (x / 2))))
         (λ f. ap length (cond-false (eqb (x % 2) 1) (a ∷ rest) rest f) ∙ e
-          ∙ sym (ones-step x ∙ ap (λ d. d + ones (x / 2)) (digit-zero (x % 2) (digit-lt x) f) ∙ zero-add (ones (x / 2))))
+        ∙ sym (ones-step x ∙ ap (λ d. d + ones (x / 2)) (digit-zero (x % 2) (digit-lt x) f) ∙ zero-add (ones (x / 2))))
         (cases-bool (eqb (x % 2) 1))
 
 pub members-ones : (m : ℕ) → m < 2 ^ choices → length (members m) ≡ ones m
@@ -218,6 +220,7 @@ taken-out m v s w = stands-xor m (2 ^ v) w ∙ ap (one-of (stands m w)) (stands-
   where
     here : eqb w v ≡ true → one-of (stands m w) (eqb w v) ≡ (stands m w && not (eqb w v))
     here e = let at : stands m w ≡ true = ap (stands m) (eqb-true w v e) ∙ s in simp (at, e)
+
     elsewhere : eqb w v ≡ false → one-of (stands m w) (eqb w v) ≡ (stands m w && not (eqb w v))
     elsewhere e = simp e (as-it-is (stands m w))
       where
@@ -231,6 +234,7 @@ not-there m v s w = ⊎-elim (λ e. here (eqb-true w v e)) (λ e. elsewhere e) (
   where
     here : w ≡ v → stands m w ≡ (stands m w && not (eqb w v))
     here e = let at : stands m w ≡ false = ap (stands m) e ∙ s in simp at
+
     elsewhere : eqb w v ≡ false → stands m w ≡ (stands m w && not (eqb w v))
     elsewhere e = simp e (and-true (stands m w))
 
@@ -240,6 +244,7 @@ without-lt n m v r p q s k = ⊎-elim (λ h. h) (λ h. absurd (no-less h)) (case
   where
     part : r ≤ m
     part = part-le n r m q p (λ w t. and-parts (stands m w) (not (eqb w v)) (sym (k w) ∙ t) .0)
+
     no-less : m ≤ r → ⊥
     no-less h =
         let same : r ≡ m = omega (arith, part) in

@@ -32,7 +32,7 @@ below n (x ∷ xs) = ltb x n && below n xs
 abbrev pub with-turn : ℕ → List ℕ → List ℕ
 with-turn v q = cond (among q v) q (q ++ v ∷ [])
 
--- A put of v into a list of capacity n, where q is the order before it and after′ the one after it.
+-- A put of v into a list of capacity n, where q is the order before it and `after` the one after it.
 abbrev pub TurnPut : ℕ → List ℕ → ℕ → List ℕ → Result (Unit {0}) PutError → Type 0
 TurnPut n q v after = Answer put-says (first (not-below n v ∷ [])) (after ≡ q) (λ _. after ≡ with-turn v q)
 

@@ -20,7 +20,7 @@ use crate::refusal::PutError;
 pub const CLASSES: usize = 7;
 
 // The classes of the numbers, over the memory that holds them, and for each class the set of its numbers that wait.
-#[derive(Clone, Copy)]
+#[derive(Drop)]
 pub struct Classed<'a> {
     classes: &'a [u8],
     sets: [NumberSet; CLASSES],

@@ -17,7 +17,7 @@ use crate::refusal::PutError;
 use crate::ring::Ring;
 
 // The numbers that wait, oldest first, and for each number whether it is among them.
-#[derive(Clone, Copy)]
+#[derive(Drop)]
 pub struct OldestFirst {
     capacity: usize,
     waiting: [bool; MAX_CAPACITY],

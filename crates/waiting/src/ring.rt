@@ -7,7 +7,7 @@ ghost use Rattle.waiting.specs.Turns.{TurnTaken};
 use crate::list::MAX_CAPACITY;
 
 // A ring: as many of its slots as its length are in use, from the first on; after the last slot comes slot 0.
-#[derive(Clone, Copy)]
+#[derive(Drop)]
 pub(crate) struct Ring {
     slots: [u16; MAX_CAPACITY],
     first: usize,

@@ -1,6 +1,7 @@
 // Runs of waiting lists: what is put, taken and refused in long mixed rows of calls.
 ghost use mathlib.Core.Path.{_≡_};
 ghost use Prim.Native.Nat.{ℕ, _+_, _*_, _%_, _<_};
+ghost use lib.ListN.{getD};
 ghost use Rattle.waiting.specs.Waiting.{Empty, how-many};
 use rows::refusal::Numbered;
 use std::io;
@@ -95,7 +96,9 @@ fn run<L: WaitingList>(
 }
 
 // The class of each number in a list of 512: 1 to 7 in turn.
-fn classes_in_turn() -> [u8; 512] {
+fn classes_in_turn() -> [u8; 512]
+    ensures { λ r. ⌜ ((k : ℕ) → k < 512 → getD r k 0 ≡ k % 7 + 1) ⌝ }
+{
     let mut classes = [1u8; 512];
     for number in 0..512 {
         classes[number] = (number % 7) as u8 + 1;
@@ -119,7 +122,13 @@ fn show_checks(rt: &LibcRuntime) -> io::Result<()> {
 }
 
 // A row of calls of the list of these classes.
-fn run_classed(rt: &LibcRuntime, classes: &[u8], steps: u32, span: u32, period: u32) -> io::Result<()>
+fn run_classed(
+    rt: &LibcRuntime,
+    classes: &[u8],
+    steps: u32,
+    span: u32,
+    period: u32,
+) -> io::Result<()>
     requires { ⌜ 0 < span ⌝ ∗ ⌜ 0 < period ⌝ }
 {
     let mut list = Classed::make(classes);
@@ -127,7 +136,13 @@ fn run_classed(rt: &LibcRuntime, classes: &[u8], steps: u32, span: u32, period: 
 }
 
 // A row of calls of the list that takes the oldest first.
-fn run_oldest(rt: &LibcRuntime, capacity: usize, steps: u32, span: u32, period: u32) -> io::Result<()>
+fn run_oldest(
+    rt: &LibcRuntime,
+    capacity: usize,
+    steps: u32,
+    span: u32,
+    period: u32,
+) -> io::Result<()>
     requires { ⌜ 0 < span ⌝ ∗ ⌜ 0 < period ⌝ }
 {
     let mut list = OldestFirst::make(capacity);

@@ -24,7 +24,7 @@ loop-number-less g c =
     let taken = c .in-Some .ensures tt in
     let there = g .L·WaitingList .lawful list .below (c .in-Some .-number) (taken .1 .0) in
     let one : suc (how-many (waits after) (room list)) ≡ how-many (waits list) (room list) =
-        many-take (waits list) (waits after) (c .in-Some .-number) (room list) there (taken .1 .0) (taken .1 .1)
+    many-take (waits list) (waits after) (c .in-Some .-number) (room list) there (taken .1 .0) (taken .1 .1)
     in
     let same : how-many (waits after) (room after) ≡ how-many (waits after) (room list) = ap (how-many (waits after)) (taken .0) in
     omega arith
@@ -38,7 +38,7 @@ loop-number-again g c =
     let taken = c .in-Some .ensures tt in
     let there = g .L·WaitingList .lawful list .below (c .in-Some .-number) (taken .1 .0) in
     let one : suc (how-many (waits after) (room list)) ≡ how-many (waits list) (room list) =
-        many-take (waits list) (waits after) (c .in-Some .-number) (room list) there (taken .1 .0) (taken .1 .1)
+    many-take (waits list) (waits after) (c .in-Some .-number) (room list) there (taken .1 .0) (taken .1 .1)
     in
     let same : how-many (waits after) (room after) ≡ how-many (waits after) (room list) = ap (how-many (waits after)) (taken .0) in
     let inv = c .loop-number .inv .1 in

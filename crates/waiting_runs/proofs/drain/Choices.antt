@@ -8,7 +8,7 @@ abbrev pub Inv-loop-number : given.InvT-loop-number
 Inv-loop-number g l =
     (g .L·WaitingList .room (l .list) ≡ g .L·WaitingList .room (l .entry .list))
     × (l .count + how-many (g .L·WaitingList .waits (l .list)) (g .L·WaitingList .room (l .list))
-      ≡ how-many (g .L·WaitingList .waits (l .entry .list)) (g .L·WaitingList .room (l .entry .list)))
+    ≡ how-many (g .L·WaitingList .waits (l .entry .list)) (g .L·WaitingList .room (l .entry .list)))
 
 abbrev pub μ-loop-number : given.MeasureT-loop-number
 μ-loop-number g l = how-many (g .L·WaitingList .waits (l .list)) (g .L·WaitingList .room (l .list))

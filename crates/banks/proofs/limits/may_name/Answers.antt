@@ -28,11 +28,11 @@ returns-then-row-width c =
     let some : 1 ≤ length rows = omega (arith, eqb-false (length rows) 0 (sym (c .if-is-empty .ensures tt))) in
     let front = drop-more rows i 0 (c .loop-place-test .taken) in
     let failed : fine w (getD rows i 0 ∷ drop (i + 1) rows) ≡ false =
-        elim (c .then-row-width .came) [
-          then-row-width·by·then-row-width p ↦ fine-wide w (getD rows i 0) (drop (i + 1) rows) (le-ltb (getD rows i 0) w (p .if-row-width .taken))
-        | then-row-width·by·else-row-width·then-contains p ↦ fine-twice w (getD rows i 0) (drop (i + 1) rows)
-            (searched rows (i + 1) (getD rows i 0) (p .contains .result) (p .contains .ensures .cases) ∙ p .if-contains .taken)
-        ]
+    elim (c .then-row-width .came) [
+      | then-row-width·by·then-row-width p ↦ fine-wide w (getD rows i 0) (drop (i + 1) rows) (le-ltb (getD rows i 0) w (p .if-row-width .taken))
+      | then-row-width·by·else-row-width·then-contains p ↦ fine-twice w (getD rows i 0) (drop (i + 1) rows)
+          (searched rows (i + 1) (getD rows i 0) (p .contains .result) (p .contains .ensures .cases) ∙ p .if-contains .taken)
+    ]
     in
     sym (may-name-fine w rows some (c .if-rows-gt-MAX-ARITY .left) ∙ sym (c .loop-place .inv) ∙ ap (fine w) front ∙ failed)
 
@@ -43,7 +43,7 @@ loop-place-again c =
     let w = c .args .width in
     let front = drop-more rows i 0 (c .loop-place-test .taken) in
     sym (fine-step w (getD rows i 0) (drop (i + 1) rows) (lt-ltb (getD rows i 0) w (c .if-row-width .left))
-      (searched rows (i + 1) (getD rows i 0) (c .contains .result) (c .contains .ensures .cases) ∙ c .if-contains .left)) ∙ sym (ap (fine w) front) ∙ c .loop-place .inv
+    (searched rows (i + 1) (getD rows i 0) (c .contains .result) (c .contains .ensures .cases) ∙ c .if-contains .left)) ∙ sym (ap (fine w) front) ∙ c .loop-place .inv
 
 pub returns : need.returns
 returns c =

@@ -23,6 +23,7 @@ returns g c =
     let Rs = g .B·Bank .rules bank in
     let k = c .args .rule in
     let s = c .args .rows .now in
-    let adm = admitted w Rs k s _ (c .in-Continue-support .ensures tt .0) in
-    (none-refused w Rs k s (adm .0) (adm .1),
-    live-shown s (rule-at Rs k) _ (c .support .last .masks) (c .in-Continue-support .ensures tt .1) (rule-named w Rs k (g .B·Bank .lawful bank) (adm .0) .some) (search needs))
+    let adm = admitted w Rs k s _ (c .in-Continue-support .ensures tt .0) in (
+      none-refused w Rs k s (adm .0) (adm .1),
+      live-shown s (rule-at Rs k) _ (c .support .last .masks) (c .in-Continue-support .ensures tt .1) (rule-named w Rs k (g .B·Bank .lawful bank) (adm .0) .some) (search needs),
+    )

@@ -37,12 +37,12 @@ loop-place-again g c =
     let row-is : c .in-Continue-row-at .field-0 ≡ named R i = c .in-Continue-row-at .ensures tt .1 in
     let next : ℕ → Type 0 = Narrowing s R (c .args .row) (c .args .mask) (i + 1) in
     elim (c .if-branch-row .came) [
-      then-branch-row w ↦
-        subst next (sym (w .passing-is))
-        (narrowing-named s R (c .args .row) (c .args .mask) i (c .loop-place .passing) _ (sym row-is ∙ w .if-branch-row .taken) (λ v. c .in-Continue-support .ensures tt .1 .exact i v inside) (c .loop-place .inv))
-    | else-branch-row w ↦
-        subst next (sym (w .passing-is))
-        (narrowing-other s R (c .args .row) (c .args .mask) i (c .loop-place .passing) (λ e. w .if-branch-row .left (row-is ∙ e)) (c .loop-place .inv))
+      | then-branch-row w ↦
+          subst next (sym (w .passing-is))
+          (narrowing-named s R (c .args .row) (c .args .mask) i (c .loop-place .passing) _ (sym row-is ∙ w .if-branch-row .taken) (λ v. c .in-Continue-support .ensures tt .1 .exact i v inside) (c .loop-place .inv))
+      | else-branch-row w ↦
+          subst next (sym (w .passing-is))
+          (narrowing-other s R (c .args .row) (c .args .mask) i (c .loop-place .passing) (λ e. w .if-branch-row .left (row-is ∙ e)) (c .loop-place .inv))
     ]
 
 pub returns : need.returns
@@ -52,6 +52,7 @@ returns g c =
     let Rs = g .B·Bank .rules bank in
     let s = c .args .rows .now in
     let adm = admitted w Rs (c .args .rule) s _ (c .in-Continue-support .ensures tt .0) in
-    let whole : c .loop-place .place ≡ arity (rule-at Rs (c .args .rule)) = omega (arith, c .in-Continue-place-end .ensures tt .1) in
-    (none-refused w Rs (c .args .rule) s (adm .0) (adm .1),
-    subst (λ (i : ℕ). Narrowing s (rule-at Rs (c .args .rule)) (c .args .row) (c .args .mask) i (c .loop-place .passing)) whole (c .loop-place .inv))
+    let whole : c .loop-place .place ≡ arity (rule-at Rs (c .args .rule)) = omega (arith, c .in-Continue-place-end .ensures tt .1) in (
+      none-refused w Rs (c .args .rule) s (adm .0) (adm .1),
+      subst (λ (i : ℕ). Narrowing s (rule-at Rs (c .args .rule)) (c .args .row) (c .args .mask) i (c .loop-place .passing)) whole (c .loop-place .inv),
+    )

@@ -21,9 +21,13 @@ returns-then-not-branch g c =
     let enough : g .B·Bank .wide bank ≤ length s = omega (arith, c .width .ensures) in
     let rule-in : c .loop-rule .rule < length (g .B·Bank .rules bank) = omega (arith, c .rule-count-rule-end .ensures) in
     let none = first-past _ [] (lt-fits-not (length s) (g .B·Bank .wide bank) (plain 24) enough) in
-    let answered = c .in-Continue-supported-by .ensures tt .1 in
-    (none, ((λ e. absurd (false≢true e)),
-      (λ all. sym (c .if-not-branch .taken) ∙ answered .1 (all-getD (SupportedBy s) (g .B·Bank .rules bank) (c .loop-rule .rule) _ rule-in (all .rules)))))
+    let answered = c .in-Continue-supported-by .ensures tt .1 in (
+      none,
+      (
+        (λ e. absurd (false≢true e)),
+        (λ all. sym (c .if-not-branch .taken) ∙ answered .1 (all-getD (SupportedBy s) (g .B·Bank .rules bank) (c .loop-rule .rule) _ rule-in (all .rules))),
+      ),
+    )
 
 pub loop-rule-again : need.loop-rule-again
 loop-rule-again g c = below-more _ _ (c .loop-rule .inv) (c .in-Continue-supported-by .ensures tt .1 .0 (c .if-not-branch .left))
@@ -33,8 +37,13 @@ returns g c =
     let bank = c .args .bank .now in
     let s = c .args .rows .now in
     let enough : g .B·Bank .wide bank ≤ length s = omega (arith, c .width .ensures) in
-    let none = first-past _ [] (lt-fits-not (length s) (g .B·Bank .wide bank) (plain 24) enough) in
-    (none, ((λ _. record {
-      rows = c .if-not-no-row-empty .ensures tt .0 refl;
-      rules = all-from-getD (SupportedBy s) (g .B·Bank .rules bank) _ (λ k h. c .loop-rule .inv k (omega (arith, c .rule-count-rule-end .ensures)));
-    }), (λ _. refl)))
+    let none = first-past _ [] (lt-fits-not (length s) (g .B·Bank .wide bank) (plain 24) enough) in (
+      none,
+      (
+        (λ _. record {
+          rows = c .if-not-no-row-empty .ensures tt .0 refl;
+          rules = all-from-getD (SupportedBy s) (g .B·Bank .rules bank) _ (λ k h. c .loop-rule .inv k (omega (arith, c .rule-count-rule-end .ensures)));
+        }),
+        (λ _. refl),
+      ),
+    )

@@ -50,11 +50,14 @@ returns-then-masks-place g c =
     let adm = admitted w Rs (c .args .rule) s _ (c .in-Continue-support .ensures tt .0) in
     let place-in : c .loop-place .place < arity R = omega (arith, c .in-Continue-place-end .ensures tt .1) in
     let differs : getD (c .support .last .masks) (c .loop-place .place) 0 ≡ row s (named R (c .loop-place .place)) → ⊥ =
-        λ e. c .if-masks-place .taken (e ∙ ap (row s) (sym (c .in-Continue-row .ensures tt .1)))
-    in
-    (none-refused w Rs (c .args .rule) s (adm .0) (adm .1),
-      ((λ e. absurd (false≢true e)),
-      (λ all. absurd (one-missing s R _ (c .support .last .masks) (c .in-Continue-support .ensures tt .1) (c .loop-place .place) place-in (search needs) (search needs) differs all))))
+    λ e. c .if-masks-place .taken (e ∙ ap (row s) (sym (c .in-Continue-row .ensures tt .1)))
+    in (
+      none-refused w Rs (c .args .rule) s (adm .0) (adm .1),
+      (
+        (λ e. absurd (false≢true e)),
+        (λ all. absurd (one-missing s R _ (c .support .last .masks) (c .in-Continue-support .ensures tt .1) (c .loop-place .place) place-in (search needs) (search needs) differs all)),
+      ),
+    )
 
 pub loop-place-again : need.loop-place-again
 loop-place-again g c = below-more _ _ (c .loop-place .inv) (c .if-masks-place .left ∙ ap (row (c .args .rows .now)) (c .in-Continue-row .ensures tt .1))
@@ -66,8 +69,11 @@ returns g c =
     let Rs = g .B·Bank .rules bank in
     let R = rule-at Rs (c .args .rule) in
     let s = c .args .rows .now in
-    let adm = admitted w Rs (c .args .rule) s _ (c .in-Continue-support .ensures tt .0) in
-    (none-refused w Rs (c .args .rule) s (adm .0) (adm .1),
-      ((λ _. all-shown s R _ (c .support .last .masks) (c .in-Continue-support .ensures tt .1)
-        (λ p h. c .loop-place .inv p (omega (arith, c .in-Continue-place-end .ensures tt .1)))),
-      (λ _. refl)))
+    let adm = admitted w Rs (c .args .rule) s _ (c .in-Continue-support .ensures tt .0) in (
+      none-refused w Rs (c .args .rule) s (adm .0) (adm .1),
+      (
+        (λ _. all-shown s R _ (c .support .last .masks) (c .in-Continue-support .ensures tt .1)
+            (λ p h. c .loop-place .inv p (omega (arith, c .in-Continue-place-end .ensures tt .1)))),
+        (λ _. refl),
+      ),
+    )

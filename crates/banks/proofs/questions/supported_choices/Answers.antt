@@ -25,6 +25,7 @@ returns g c =
     let s = c .args .rows .now in
     let Rs = g .B·Bank .rules bank in
     let enough : g .B·Bank .wide bank ≤ length s = omega (arith, c .width .ensures) in
-    let whole : c .loop-rule .rule ≡ length Rs = omega (arith, c .rule-count-rule-end .ensures) in
-    (first-past _ [] (lt-fits-not (length s) (g .B·Bank .wide bank) (plain 24) enough),
-    choosing-all s Rs (c .args .row) (c .loop-rule .passing) (subst (λ (i : ℕ). Choosing s Rs (c .args .row) i (c .loop-rule .passing)) whole (c .loop-rule .inv)))
+    let whole : c .loop-rule .rule ≡ length Rs = omega (arith, c .rule-count-rule-end .ensures) in (
+      first-past _ [] (lt-fits-not (length s) (g .B·Bank .wide bank) (plain 24) enough),
+      choosing-all s Rs (c .args .row) (c .loop-rule .passing) (subst (λ (i : ℕ). Choosing s Rs (c .args .row) i (c .loop-rule .passing)) whole (c .loop-rule .inv)),
+    )

@@ -15,9 +15,13 @@ loop-arc-holds c =
 pub leads-between-requires : need.leads-between-requires
 leads-between-requires c κs =
     let i = c .loop-arc .arc-index in
-    let p = placed-at (length (c .args .masks .now)) (c .args .nodes .now) (c .args .arcs .now) (c .pre .0) i (c .loop-arc-test .taken) in
-    (p .node-in, (node-place (length (c .args .masks .now)) (c .args .nodes .now) (c .args .arcs .now) (c .pre .0) i (c .loop-arc-test .taken),
-      (omega (arith, p .target-in, c .pre .0 .few), omega (arith, p .node-in, c .pre .0 .few))))
+    let p = placed-at (length (c .args .masks .now)) (c .args .nodes .now) (c .args .arcs .now) (c .pre .0) i (c .loop-arc-test .taken) in (
+      p .node-in,
+      (
+        node-place (length (c .args .masks .now)) (c .args .nodes .now) (c .args .arcs .now) (c .pre .0) i (c .loop-arc-test .taken),
+        (omega (arith, p .target-in, c .pre .0 .few), omega (arith, p .node-in, c .pre .0 .few)),
+      ),
+    )
 
 pub index-shown-place : need.index-shown-place
 index-shown-place c =
@@ -38,13 +42,13 @@ loop-arc-again c =
     let S = member (c .loop-arc .reached .words) in
     let E = member (c .args .ends .now .words) in
     elim (c .if-leads-between .came) [
-      then-leads-between w ↦
-        fore-same nodes arcs masks (i + 1) E (c .if-leads-between .reached .words) (w .add-then-leads-between .last .self .words) (c .if-leads-between .shown) _ (ap (λ r. r .words) (w .reached-is)) (w .shown-is)
-        (fore-more nodes arcs masks i S E (c .loop-arc .shown) (c .loop-arc .inv) (length masks) (c .pre .0) (c .loop-arc-test .taken) (member (w .add-then-leads-between .last .self .words)) (w .add-then-leads-between .ensures) (c .pre .1)
+      | then-leads-between w ↦
+          fore-same nodes arcs masks (i + 1) E (c .if-leads-between .reached .words) (w .add-then-leads-between .last .self .words) (c .if-leads-between .shown) _ (ap (λ r. r .words) (w .reached-is)) (w .shown-is)
+          (fore-more nodes arcs masks i S E (c .loop-arc .shown) (c .loop-arc .inv) (length masks) (c .pre .0) (c .loop-arc-test .taken) (member (w .add-then-leads-between .last .self .words)) (w .add-then-leads-between .ensures) (c .pre .1)
           (sym (c .leads-between .ensures) ∙ w .if-leads-between .taken))
-    | else-leads-between w ↦
-        fore-same nodes arcs masks (i + 1) E (c .if-leads-between .reached .words) (c .loop-arc .reached .words) (c .if-leads-between .shown) (c .loop-arc .shown) (ap (λ r. r .words) (w .reached-is)) (w .shown-is)
-        (fore-skip nodes arcs masks i S E (c .loop-arc .shown) (c .loop-arc .inv) (sym (c .leads-between .ensures) ∙ w .if-leads-between .left))
+      | else-leads-between w ↦
+          fore-same nodes arcs masks (i + 1) E (c .if-leads-between .reached .words) (c .loop-arc .reached .words) (c .if-leads-between .shown) (c .loop-arc .shown) (ap (λ r. r .words) (w .reached-is)) (w .shown-is)
+          (fore-skip nodes arcs masks i S E (c .loop-arc .shown) (c .loop-arc .inv) (sym (c .leads-between .ensures) ∙ w .if-leads-between .left))
     ]
 
 pub returns : need.returns

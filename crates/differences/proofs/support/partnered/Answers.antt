@@ -28,6 +28,6 @@ returns-in-Congruent c =
     let f : SFits w32 (c .args .shift) = c .fits .shift in
     subst (λ (relation : Relation). Kept (HasPartner relation (c .args .bound) (c .args .shift) (c .args .others)) (c .args .own) (c .keep .result)) (sym is)
     (kept-like (λ v. Finds Same (remEuclid (pos v +ℤ c .args .shift) (pos m)) (c .remainders-left .result)) (HasPartner (Congruent m) (c .args .bound) (c .args .shift) (c .args .others)) (c .args .own) (c .keep .result)
-      (λ v. congruent-found (c .args .others) m (c .remainders-left .result) (pos v +ℤ c .args .shift) positive (c .remainders-left .ensures))
-      (λ v. congruent-finds (c .args .others) m (c .remainders-left .result) (pos v +ℤ c .args .shift) positive (c .remainders-left .ensures))
-      (simp toZ-ofZ at (c .keep .ensures)))
+    (λ v. congruent-found (c .args .others) m (c .remainders-left .result) (pos v +ℤ c .args .shift) positive (c .remainders-left .ensures))
+    (λ v. congruent-finds (c .args .others) m (c .remainders-left .result) (pos v +ℤ c .args .shift) positive (c .remainders-left .ensures))
+    (simp toZ-ofZ at (c .keep .ensures)))

@@ -75,7 +75,7 @@ loop-choice-again g t c =
     let further = c .in-Continue-goes-on .ensures tt in
     let stays = front-stays plan (c .loop-choice .plan) from v inside (c .loop-choice .inv .1) (c .goes-on .last .plan) (further .front) in
     let fails : GoesOn s Rs (length plan) (front ++ v ∷ []) → ⊥ =
-        λ on. false≢true (sym (c .if-branch .left) ∙ further .answer .1 .1 (subst (λ (n : ℕ). GoesOn s Rs n (take (from + 1) (set (c .loop-choice .plan) from v))) (sym same-long) (subst (λ (f : Plan). GoesOn s Rs (length plan) f) (sym pushed) on)))
+    λ on. false≢true (sym (c .if-branch .left) ∙ further .answer .1 .1 (subst (λ (n : ℕ). GoesOn s Rs n (take (from + 1) (set (c .loop-choice .plan) from v))) (sym same-long) (subst (λ (f : Plan). GoesOn s Rs (length plan) f) (sym pushed) on)))
     in
     (search needs, stays, trying-more s Rs (length plan) front (c .loop-choice .choice-iterator .rest) (c .next .last .self .rest) v (c .in-Some .ensures tt .steps .1) fails (c .loop-choice .inv .2))
 

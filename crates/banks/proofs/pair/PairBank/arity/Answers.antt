@@ -14,7 +14,7 @@ returns-then-rule-split g c =
     let k = c .args .rule in
     let inside : k < length (pair-rules Rs Ss) = omega (arith, c .rule-count .ensures) in
     let low : k < length Rs = omega (arith, c .rule-count-split .ensures) in
-    arity-moved (pair-rules Rs Ss) Rs k k inside low (of-first Rs Ss k inside low)  (c .arity .result) (c .arity .ensures)
+    arity-moved (pair-rules Rs Ss) Rs k k inside low (of-first Rs Ss k inside low) (c .arity .result) (c .arity .ensures)
 
 pub returns-else-rule-split : need.returns-else-rule-split
 returns-else-rule-split g c =
@@ -24,5 +24,5 @@ returns-else-rule-split g c =
     let inside : k < length (pair-rules Rs Ss) = omega (arith, c .rule-count .ensures) in
     let high : length Rs ≤ k = omega (arith, c .rule-count-split .ensures) in
     let there = in-second Rs Ss k inside high in
-    arity-moved (pair-rules Rs Ss) Ss k (k - length Rs) inside there (of-second Rs Ss k inside high)  (c .arity-else-rule-split .result)
+    arity-moved (pair-rules Rs Ss) Ss k (k - length Rs) inside there (of-second Rs Ss k inside high) (c .arity-else-rule-split .result)
     (subst (λ (n : ℕ). ArityAnswer Ss (k - n) (c .arity-else-rule-split .result)) (c .rule-count-split .ensures) (c .arity-else-rule-split .ensures))

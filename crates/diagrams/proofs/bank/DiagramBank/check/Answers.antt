@@ -10,9 +10,11 @@ use Rattle.diagrams.proofs.Banking.{no-diagram}
 use Rattle.diagrams.proofs.bank.DiagramBank.check.Needs as need
 
 pub returns-in-Err : need.returns-in-Err
-returns-in-Err c =
-    (refused-rule (fault (c .args .width) (c .args .places .now) (c .args .arcs .now)) (c .args .width) (c .args .diagrams .now) (c .loop-number .number) no-diagram (fault-says (c .in-Err .fault)) (sym (c .if-not-may-hold .ensures tt)) (c .loop-number .inv) (c .loop-number-test .taken) (c .in-Err .ensures tt .0)
-      ∙ ap (λ e. Some (bank-says fault-says e)) (sym (c .of-rule .ensures)), tt)
+returns-in-Err c = (
+  refused-rule (fault (c .args .width) (c .args .places .now) (c .args .arcs .now)) (c .args .width) (c .args .diagrams .now) (c .loop-number .number) no-diagram (fault-says (c .in-Err .fault)) (sym (c .if-not-may-hold .ensures tt)) (c .loop-number .inv) (c .loop-number-test .taken) (c .in-Err .ensures tt .0)
+      ∙ ap (λ e. Some (bank-says fault-says e)) (sym (c .of-rule .ensures)),
+  tt,
+)
 
 pub loop-number-again : need.loop-number-again
 loop-number-again c =

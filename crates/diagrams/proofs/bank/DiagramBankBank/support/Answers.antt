@@ -10,9 +10,10 @@ pub supported-shown-requires : need.supported-shown-requires
 supported-shown-requires c κs =
     let b = c .args .self .now in
     let d = c .in-Continue-diagram .diagram in
-    let fine = c .in-Continue-diagram .ensures tt .fine in
-    (layered (b .width) (b .places .now) (b .arcs .now) d fine (c .of-nodes .result .now) (c .of-arcs .result .now) (c .of-nodes .ensures) (c .of-arcs .ensures),
-    (λ p h. omega (arith, rows-named (b .width) (b .places .now) (b .arcs .now) d fine .within p h, rows-enough (b .width) (c .args .rows .now) _ (c .in-Continue-admit .ensures tt .0))))
+    let fine = c .in-Continue-diagram .ensures tt .fine in (
+      layered (b .width) (b .places .now) (b .arcs .now) d fine (c .of-nodes .result .now) (c .of-arcs .result .now) (c .of-nodes .ensures) (c .of-arcs .ensures),
+      (λ p h. omega (arith, rows-named (b .width) (b .places .now) (b .arcs .now) d fine .within p h, rows-enough (b .width) (c .args .rows .now) _ (c .in-Continue-admit .ensures tt .0))),
+    )
 
 pub returns : need.returns
 returns c =

@@ -10,9 +10,11 @@ use Rattle.diagrams.proofs.Banking.{counted-from, fault-node, fault-arc, fault
 use Rattle.diagrams.proofs.diagram.Diagram.check.Needs as need
 
 pub returns-in-Some : need.returns-in-Some
-returns-in-Some c =
-    (fault-node (c .args .width) (c .args .places .now) (c .args .arcs .now) (c .args .self .now) (sym (c .if-not-may-name .ensures tt)) (sym (c .if-not-counts-fit .ensures tt))
-      (c .of-own-nodes .result .now) (c .of-own-nodes .ensures) (c .in-Some .node) (c .in-Some .ensures tt), tt)
+returns-in-Some c = (
+  fault-node (c .args .width) (c .args .places .now) (c .args .arcs .now) (c .args .self .now) (sym (c .if-not-may-name .ensures tt)) (sym (c .if-not-counts-fit .ensures tt))
+      (c .of-own-nodes .result .now) (c .of-own-nodes .ensures) (c .in-Some .node) (c .in-Some .ensures tt),
+  tt,
+)
 
 pub add-result-in-Some-first-bad-arc : need.add-result-in-Some-first-bad-arc
 add-result-in-Some-first-bad-arc c =
@@ -25,12 +27,16 @@ add-result-in-Some-first-bad-arc c =
     record { fits = omega (arith, f .fits, c .in-Some-first-bad-arc .ensures tt .0) }
 
 pub returns-in-Some-first-bad-arc : need.returns-in-Some-first-bad-arc
-returns-in-Some-first-bad-arc c =
-    (fault-arc (c .args .width) (c .args .places .now) (c .args .arcs .now) (c .args .self .now) (sym (c .if-not-may-name .ensures tt)) (sym (c .if-not-counts-fit .ensures tt))
+returns-in-Some-first-bad-arc c = (
+  fault-arc (c .args .width) (c .args .places .now) (c .args .arcs .now) (c .args .self .now) (sym (c .if-not-may-name .ensures tt)) (sym (c .if-not-counts-fit .ensures tt))
       (c .of-own-nodes .result .now) (c .of-own-nodes .ensures) (c .of-own-arcs .result .now) (c .of-own-arcs .ensures) (c .in-rest .ensures tt)
-      (c .in-Some-first-bad-arc .number) (c .in-Some-first-bad-arc .ensures tt), tt)
+      (c .in-Some-first-bad-arc .number) (c .in-Some-first-bad-arc .ensures tt),
+  tt,
+)
 
 pub returns : need.returns
-returns c =
-    (fault-none (c .args .width) (c .args .places .now) (c .args .arcs .now) (c .args .self .now) (sym (c .if-not-may-name .ensures tt)) (sym (c .if-not-counts-fit .ensures tt))
-      (c .of-own-nodes .result .now) (c .of-own-nodes .ensures) (c .of-own-arcs .result .now) (c .of-own-arcs .ensures) (c .in-rest .ensures tt) (c .in-rest-first-bad-arc .ensures tt), tt)
+returns c = (
+  fault-none (c .args .width) (c .args .places .now) (c .args .arcs .now) (c .args .self .now) (sym (c .if-not-may-name .ensures tt)) (sym (c .if-not-counts-fit .ensures tt))
+      (c .of-own-nodes .result .now) (c .of-own-nodes .ensures) (c .of-own-arcs .result .now) (c .of-own-arcs .ensures) (c .in-rest .ensures tt) (c .in-rest-first-bad-arc .ensures tt),
+  tt,
+)

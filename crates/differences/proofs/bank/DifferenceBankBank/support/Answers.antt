@@ -54,8 +54,9 @@ returns c =
     let s = c .args .rows .now in
     let before = c .args .masks .now in
     let none = c .in-Continue-admit .ensures tt .0 in
-    let sides = c .both-sides-of-x .ensures in
-    (after-rule ds k (b .width) s before (c .if-rule-self .left) ∙ none,
-    subst (λ (R : Rule). Shows s R before (set (set before 0 (c .both-sides-of-x .result .0)) 1 (c .both-sides-of-x .result .1)))
-      (sym (rule-found meaning ds k no-difference (c .if-rule-self .left)))
-      (pair-shows s (getD ds k no-difference) before _ _ (masks-enough (b .width) 2 s before none) (sides .0) (sides .1)))
+    let sides = c .both-sides-of-x .ensures in (
+      after-rule ds k (b .width) s before (c .if-rule-self .left) ∙ none,
+      subst (λ (R : Rule). Shows s R before (set (set before 0 (c .both-sides-of-x .result .0)) 1 (c .both-sides-of-x .result .1)))
+          (sym (rule-found meaning ds k no-difference (c .if-rule-self .left)))
+          (pair-shows s (getD ds k no-difference) before _ _ (masks-enough (b .width) 2 s before none) (sides .0) (sides .1)),
+    )

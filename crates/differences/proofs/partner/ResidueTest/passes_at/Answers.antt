@@ -15,6 +15,6 @@ returns c =
     let t = c .args .self .now in
     let f : SFits w64 (c .rem-euclid .result) = record { sfits = c .rem-euclid .ok } in
     let e : c .rem-euclid .result ≡ remEuclid (pos (c .args .choice) +ℤ t .shift) (pos (t .modulus)) =
-        c .rem-euclid .ensures .value ∙ ap₂ remEuclid (omega (arith, ints)) (omega (arith, ints))
+    c .rem-euclid .ensures .value ∙ ap₂ remEuclid (omega (arith, ints)) (omega (arith, ints))
     in
     subst (λ (z : ℤ). Decides (c .has .result) (Finds Same z (t .left))) e (simp toZ-ofZ at (c .has .ensures))
