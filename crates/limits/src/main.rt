@@ -12,15 +12,10 @@ use rows::mask::count;
 use rows::mask::only;
 use rows::refusal::RowErrorNumbered;
 use rows::row::Row;
-use std::alloc::AllocError;
-use std::alloc::Global;
 use std::error::AnyError;
-
-mod show;
-
-use show::answered;
-use show::given;
-use show::masks_text;
+use texts::answer_text;
+use texts::number_text;
+use texts::sets_text;
 
 // A difference between the rows 0 and 1.
 fn between(relation: Relation, offset: i32) -> Difference {
@@ -40,7 +35,7 @@ fn print_bank(
     differences: &[Difference],
 ) -> Result<(), AnyError> {
     let heap = rt.alloc();
-    let text = answered(heap, &DifferenceBank::check(width, differences))?;
+    let text = answer_text(heap, &DifferenceBank::check(width, differences))?;
     let bank = DifferenceBank::make(width, differences);
     let made = bank.width();
     let count = bank.rule_count();
@@ -139,7 +134,7 @@ fn run(rt: &LibcRuntime) -> Result<(), AnyError> {
 fn print_rows(rt: &LibcRuntime) -> Result<(), AnyError> {
     for mask in [0, only(0), only(63), u64::MAX] {
         let heap = rt.alloc();
-        let text = answered(heap, &Row::new(mask))?;
+        let text = answer_text(heap, &Row::new(mask))?;
         let choices = count(mask);
         println!(rt, "row of {choices} choices: {text}")?;
     }
@@ -159,10 +154,10 @@ fn print_calls(rt: &LibcRuntime) -> Result<(), AnyError> {
     ];
     let bank = DifferenceBank::make(3, &differences);
     for rule in 0..3 {
-        let arity = given(rt.alloc(), bank.arity(rule))?;
+        let arity = number_text(rt.alloc(), &bank.arity(rule))?;
         println!(rt, "arity of rule {rule}: {arity}")?;
         for place in 0..3 {
-            let row = given(rt.alloc(), bank.row_at(rule, place))?;
+            let row = number_text(rt.alloc(), &bank.row_at(rule, place))?;
             println!(rt, "row at place {place} of rule {rule}: {row}")?;
         }
     }
@@ -186,11 +181,11 @@ fn print_support<B: Bank>(
     let heap = rt.alloc();
     let count = rows.len();
     let mut memory = vec![in heap; only(7); masks]?;
-    let text = answered(heap, &bank.support(rule, rows, &mut memory))?;
-    let left = masks_text(heap, memory.as_slice())?;
+    let text = answer_text(heap, &bank.support(rule, rows, &mut memory))?;
+    let left = sets_text(heap, memory.as_slice())?;
     println!(
         rt,
-        "support of rule {rule} on {count} rows with {masks} masks: {text}, masks {left}"
+        "support of rule {rule} on {count} rows with {masks} masks: {text}, masks{left}"
     )?;
     Ok(())
 }

@@ -25,6 +25,7 @@ use tables::bank::TableBank;
 use tables::bank::TableBankBank;
 use tables::table::STAR;
 use tables::table::Table;
+use texts::set_text;
 
 mod plans;
 mod rules;
@@ -33,7 +34,6 @@ mod show;
 use plans::plan_exists;
 use rules::arc;
 use rules::not_the_same_hour;
-use show::hours;
 use show::told;
 use show::word;
 
@@ -41,7 +41,7 @@ use show::word;
 fn print_orders(rt: &LibcRuntime, orders: &[u64]) -> Result<(), AnyError> {
     for (order, mask) in orders.iter().enumerate() {
         let row = told(rt.alloc(), Row::new(*mask))?;
-        let free = hours(rt.alloc(), row.mask())?;
+        let free = set_text(rt.alloc(), row.mask())?;
         println!(rt, "  order {order}: hours {free}")?;
     }
     Ok(())
@@ -60,7 +60,7 @@ fn print_support<B: Bank>(
     let arity = told(rt.alloc(), bank.arity(rule))?;
     for (place, mask) in masks.iter().take(arity).enumerate() {
         let order = told(rt.alloc(), bank.row_at(rule, place))?;
-        let shown = hours(rt.alloc(), *mask)?;
+        let shown = set_text(rt.alloc(), *mask)?;
         println!(
             rt,
             "  rule {rule}, {name}: order {order} has support at {shown}"

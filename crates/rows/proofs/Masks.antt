@@ -257,3 +257,39 @@ without-stood m v r w k s =
 
 pub without-stays : (m v r w : ℕ) → Without v m r → stands m w ≡ true → (w ≡ v → ⊥) → stands r w ≡ true
 without-stays m v r w k s ne = k w ∙ and-from (stands m w) (not (eqb w v)) s (ap not (ne-eqb w v ne))
+
+-- above a choice that is taken out, the choices are the same
+above-taken : (n a m r v : ℕ) → v < a → Without v m r → kept-by (stands m) (counting a n) ≡ kept-by (stands r) (counting a n)
+above-taken zero a m r v h out = refl
+above-taken (suc n) a m r v h out =
+    let same : stands r a ≡ stands m a = out a ∙ ap (λ b. stands m a && not b) (ne-eqb a v (λ e. omega arith)) ∙ sym (and-true (stands m a)) in
+    let rest = above-taken n (a + 1) m r v (omega arith) out in
+    ap (λ t. cond (stands m a) (a ∷ t) t) rest ∙ ap (λ b. cond b (a ∷ kept-by (stands r) (counting (a + 1) n)) (kept-by (stands r) (counting (a + 1) n))) (sym same)
+
+lowest-first : (n a m r v : ℕ) → a ≤ v → v < a + n → Lowest m v → Without v m r → kept-by (stands m) (counting a n) ≡ v ∷ kept-by (stands r) (counting a n)
+lowest-first zero a m r v h k low out = absurd (omega arith)
+lowest-first (suc n) a m r v h k low out = ⊎-elim here (λ ne. later ne (lowest-first n (a + 1) m r v (omega arith) (omega arith) low out)) (cases-eq a v)
+  where
+    gone : a ≡ v → stands r a ≡ false
+    gone e = out a ∙ ap (λ b. stands m a && not b) (eq-eqb a v e) ∙ and-right (stands m a) false refl
+
+    here : a ≡ v → kept-by (stands m) (counting a (suc n)) ≡ v ∷ kept-by (stands r) (counting a (suc n))
+    here e =
+        cond-true (stands m a) _ _ (ap (stands m) e ∙ low .here) ∙ ap (λ x. x ∷ kept-by (stands m) (counting (a + 1) n)) e
+        ∙ ap (λ t. v ∷ t) (above-taken n (a + 1) m r v (omega arith) out ∙ sym (cond-false (stands r a) _ _ (gone e)))
+
+    later : (a ≡ v → ⊥) → kept-by (stands m) (counting (a + 1) n) ≡ v ∷ kept-by (stands r) (counting (a + 1) n)
+        → kept-by (stands m) (counting a (suc n)) ≡ v ∷ kept-by (stands r) (counting a (suc n))
+    later ne rest =
+        let none : stands m a ≡ false = low .below a (omega arith) in
+        let none′ : stands r a ≡ false = out a ∙ and-left (stands m a) (not (eqb a v)) none in
+        cond-false (stands m a) _ _ none ∙ rest ∙ ap (λ t. v ∷ t) (sym (cond-false (stands r a) _ _ none′))
+
+-- the choices of a mask are its lowest, and then those of the mask without it
+pub members-lowest : (m r v : ℕ) → v < choices → Lowest m v → Without v m r → members m ≡ v ∷ members r
+unfolding members
+members-lowest m r v h low out = lowest-first choices 0 m r v (omega arith) (omega arith) low out
+
+pub members-none : members 0 ≡ []
+unfolding members stands
+members-none = refl
