@@ -75,6 +75,20 @@ fn print_tables<'a>(
     Ok(())
 }
 
+// The same of a bank of one table.
+fn print_table<'a>(
+    rt: &LibcRuntime,
+    label: &str,
+    width: usize,
+    rows: &'a [usize],
+    start: usize,
+    lines: usize,
+    pool: &'a [u8],
+) -> Result<(), AnyError> {
+    print_tables(rt, label, width, &[Table { rows, start, lines }], pool)?;
+    Ok(())
+}
+
 // How many tables a bank may hold, and which rows a table may name.
 fn print_table_rows(rt: &LibcRuntime) -> Result<(), AnyError> {
     let many = vec![in rt.alloc(); Table {
@@ -84,39 +98,30 @@ fn print_table_rows(rt: &LibcRuntime) -> Result<(), AnyError> {
     }; 513]?;
     print_tables(rt, "512 tables", 2, &many[0..512], &[])?;
     print_tables(rt, "513 tables", 2, &many[0..513], &[])?;
-    print_tables(
-        rt,
-        "a table on no row",
-        17,
-        &[Table {
-            rows: &[],
-            start: 0,
-            lines: 0,
-        }],
-        &[],
-    )?;
-    print_tables(
+    print_table(rt, "a table on no row", 17, &[], 0, 0, &[])?;
+    print_table(
         rt,
         "a table on 16 rows",
         17,
-        &[Table {
-            rows: &[0, 1, 2, 3, 4, 5, 6, 7, 8, 9, 10, 11, 12, 13, 14, 15],
-            start: 0,
-            lines: 0,
-        }],
+        &[0, 1, 2, 3, 4, 5, 6, 7, 8, 9, 10, 11, 12, 13, 14, 15],
+        0,
+        0,
         &[],
     )?;
-    print_tables(
+    print_table(
         rt,
         "a table on 17 rows",
         17,
-        &[Table {
-            rows: &[0, 1, 2, 3, 4, 5, 6, 7, 8, 9, 10, 11, 12, 13, 14, 15, 16],
-            start: 0,
-            lines: 0,
-        }],
+        &[0, 1, 2, 3, 4, 5, 6, 7, 8, 9, 10, 11, 12, 13, 14, 15, 16],
+        0,
+        0,
         &[],
     )?;
+    Ok(())
+}
+
+// A row twice in a later table.
+fn print_row_twice(rt: &LibcRuntime) -> Result<(), AnyError> {
     print_tables(
         rt,
         "a row twice in rule 1",
@@ -135,6 +140,11 @@ fn print_table_rows(rt: &LibcRuntime) -> Result<(), AnyError> {
         ],
         &[],
     )?;
+    Ok(())
+}
+
+// The last row below the width.
+fn print_last_row(rt: &LibcRuntime) -> Result<(), AnyError> {
     print_tables(
         rt,
         "row 15 of width 16",
@@ -158,6 +168,11 @@ fn print_table_rows(rt: &LibcRuntime) -> Result<(), AnyError> {
         ],
         &[],
     )?;
+    Ok(())
+}
+
+// A row not below the width in a later table.
+fn print_row_past_width(rt: &LibcRuntime) -> Result<(), AnyError> {
     print_tables(
         rt,
         "row 16 of width 16 in rule 2",
@@ -184,129 +199,58 @@ fn print_table_rows(rt: &LibcRuntime) -> Result<(), AnyError> {
     Ok(())
 }
 
-// How many lines a table may have, and where they may lie in a pool of 65,536 bytes.
+// How many lines a table may have, over a pool of 65,536 bytes.
 fn print_table_lines(rt: &LibcRuntime) -> Result<(), AnyError> {
     let pool = vec![in rt.alloc(); 0u8; 65536]?;
     let bytes = pool.as_slice();
-    print_tables(
-        rt,
-        "65535 lines of one place",
-        2,
-        &[Table {
-            rows: &[0],
-            start: 0,
-            lines: 65535,
-        }],
-        bytes,
-    )?;
-    print_tables(
-        rt,
-        "65536 lines of one place",
-        2,
-        &[Table {
-            rows: &[0],
-            start: 0,
-            lines: 65536,
-        }],
-        bytes,
-    )?;
-    print_tables(
-        rt,
-        "32768 lines of two places",
-        2,
-        &[Table {
-            rows: &[0, 1],
-            start: 0,
-            lines: 32768,
-        }],
-        bytes,
-    )?;
-    print_tables(
+    print_table(rt, "65535 lines of one place", 2, &[0], 0, 65535, bytes)?;
+    print_table(rt, "65536 lines of one place", 2, &[0], 0, 65536, bytes)?;
+    print_table(rt, "32768 lines of two places", 2, &[0, 1], 0, 32768, bytes)?;
+    print_table(
         rt,
         "32768 lines of two places from byte 1 on",
         2,
-        &[Table {
-            rows: &[0, 1],
-            start: 1,
-            lines: 32768,
-        }],
+        &[0, 1],
+        1,
+        32768,
         bytes,
     )?;
-    print_tables(
-        rt,
-        "no lines, no pool",
-        2,
-        &[Table {
-            rows: &[0],
-            start: 0,
-            lines: 0,
-        }],
-        &[],
-    )?;
-    print_tables(
-        rt,
-        "no lines at the pool's end",
-        2,
-        &[Table {
-            rows: &[0],
-            start: 65536,
-            lines: 0,
-        }],
-        bytes,
-    )?;
-    print_tables(
+    Ok(())
+}
+
+// Where the lines of a table may start in a pool of 65,536 bytes.
+fn print_table_starts(rt: &LibcRuntime) -> Result<(), AnyError> {
+    let pool = vec![in rt.alloc(); 0u8; 65536]?;
+    let bytes = pool.as_slice();
+    print_table(rt, "no lines, no pool", 2, &[0], 0, 0, &[])?;
+    print_table(rt, "no lines at the pool's end", 2, &[0], 65536, 0, bytes)?;
+    print_table(
         rt,
         "no lines one past the pool's end",
         2,
-        &[Table {
-            rows: &[0],
-            start: 65537,
-            lines: 0,
-        }],
+        &[0],
+        65537,
+        0,
         bytes,
     )?;
-    print_tables(
-        rt,
-        "the pool's last byte",
-        2,
-        &[Table {
-            rows: &[0],
-            start: 65535,
-            lines: 1,
-        }],
-        bytes,
-    )?;
-    print_tables(
-        rt,
-        "one line at the pool's end",
-        2,
-        &[Table {
-            rows: &[0],
-            start: 65536,
-            lines: 1,
-        }],
-        bytes,
-    )?;
-    print_tables(
+    print_table(rt, "the pool's last byte", 2, &[0], 65535, 1, bytes)?;
+    print_table(rt, "one line at the pool's end", 2, &[0], 65536, 1, bytes)?;
+    print_table(
         rt,
         "one line from the largest start",
         2,
-        &[Table {
-            rows: &[0],
-            start: usize::MAX,
-            lines: 1,
-        }],
+        &[0],
+        usize::MAX,
+        1,
         bytes,
     )?;
-    print_tables(
+    print_table(
         rt,
         "no lines from the largest start",
         2,
-        &[Table {
-            rows: &[0],
-            start: usize::MAX,
-            lines: 0,
-        }],
+        &[0],
+        usize::MAX,
+        0,
         bytes,
     )?;
     Ok(())
@@ -315,50 +259,16 @@ fn print_table_lines(rt: &LibcRuntime) -> Result<(), AnyError> {
 // Which bytes a table may have, and which of two faults is named.
 fn print_table_bytes(rt: &LibcRuntime) -> Result<(), AnyError> {
     let pool = [63u8, 255, 64, 254, 7];
-    print_tables(
-        rt,
-        "bytes 63 and 255",
-        2,
-        &[Table {
-            rows: &[0, 1],
-            start: 0,
-            lines: 1,
-        }],
-        &pool,
-    )?;
-    print_tables(
-        rt,
-        "byte 64",
-        2,
-        &[Table {
-            rows: &[0],
-            start: 2,
-            lines: 1,
-        }],
-        &pool,
-    )?;
-    print_tables(
-        rt,
-        "byte 254",
-        2,
-        &[Table {
-            rows: &[0],
-            start: 3,
-            lines: 1,
-        }],
-        &pool,
-    )?;
-    print_tables(
-        rt,
-        "bytes 63, 255, 64 and 254",
-        2,
-        &[Table {
-            rows: &[0, 1],
-            start: 0,
-            lines: 2,
-        }],
-        &pool,
-    )?;
+    print_table(rt, "bytes 63 and 255", 2, &[0, 1], 0, 1, &pool)?;
+    print_table(rt, "byte 64", 2, &[0], 2, 1, &pool)?;
+    print_table(rt, "byte 254", 2, &[0], 3, 1, &pool)?;
+    print_table(rt, "bytes 63, 255, 64 and 254", 2, &[0, 1], 0, 2, &pool)?;
+    Ok(())
+}
+
+// Bytes that no table uses are not examined.
+fn print_unused_bytes(rt: &LibcRuntime) -> Result<(), AnyError> {
+    let pool = [63u8, 255, 64, 254, 7];
     print_tables(
         rt,
         "bad bytes outside every table",
@@ -377,28 +287,36 @@ fn print_table_bytes(rt: &LibcRuntime) -> Result<(), AnyError> {
         ],
         &pool,
     )?;
-    print_tables(
+    Ok(())
+}
+
+// Which of two faults of one table is named.
+fn print_two_faults(rt: &LibcRuntime) -> Result<(), AnyError> {
+    let pool = [63u8, 255, 64, 254, 7];
+    print_table(
         rt,
         "a row twice, and a line past the pool",
         2,
-        &[Table {
-            rows: &[1, 1],
-            start: 9,
-            lines: 1,
-        }],
+        &[1, 1],
+        9,
+        1,
         &pool,
     )?;
-    print_tables(
+    print_table(
         rt,
         "a line past the pool, and a bad byte",
         2,
-        &[Table {
-            rows: &[0],
-            start: 3,
-            lines: 3,
-        }],
+        &[0],
+        3,
+        3,
         &pool,
     )?;
+    Ok(())
+}
+
+// A fault in an earlier table wins: a byte.
+fn print_byte_before_row(rt: &LibcRuntime) -> Result<(), AnyError> {
+    let pool = [63u8, 255, 64, 254, 7];
     print_tables(
         rt,
         "a bad byte in rule 1, a row twice in rule 2",
@@ -422,6 +340,12 @@ fn print_table_bytes(rt: &LibcRuntime) -> Result<(), AnyError> {
         ],
         &pool,
     )?;
+    Ok(())
+}
+
+// A fault in an earlier table wins: a row.
+fn print_row_before_byte(rt: &LibcRuntime) -> Result<(), AnyError> {
+    let pool = [63u8, 255, 64, 254, 7];
     print_tables(
         rt,
         "a row twice in rule 1, a bad byte in rule 2",
@@ -488,7 +412,7 @@ fn print_diagram(
     Ok(())
 }
 
-// How many diagrams a bank may hold, which rows they may name, and how many nodes and arcs they may have.
+// How many diagrams a bank may hold, and one on no row.
 fn print_diagram_counts(rt: &LibcRuntime) -> Result<(), AnyError> {
     let many = vec![in rt.alloc(); Diagram {
         rows: &[0, 1],
@@ -509,6 +433,11 @@ fn print_diagram_counts(rt: &LibcRuntime) -> Result<(), AnyError> {
             arcs: span(0, 0),
         }],
     )?;
+    Ok(())
+}
+
+// A row not below the width in a later diagram.
+fn print_diagram_rows(rt: &LibcRuntime) -> Result<(), AnyError> {
     print_diagrams(
         rt,
         "a diagram on row 2 of width 2",
@@ -528,9 +457,19 @@ fn print_diagram_counts(rt: &LibcRuntime) -> Result<(), AnyError> {
             },
         ],
     )?;
+    Ok(())
+}
+
+// Few nodes.
+fn print_few_nodes(rt: &LibcRuntime) -> Result<(), AnyError> {
     print_diagram(rt, "2 nodes", &[0, 2], &[], span(0, 2), span(0, 0))?;
     print_diagram(rt, "1 node", &[0, 2], &[], span(0, 1), span(0, 0))?;
     print_diagram(rt, "no nodes", &[0, 2], &[], span(0, 0), span(0, 0))?;
+    Ok(())
+}
+
+// Many arcs, of which the second equals the first.
+fn print_many_arcs(rt: &LibcRuntime) -> Result<(), AnyError> {
     let equal = vec![in rt.alloc(); arc(0, 0, 1); 65536]?;
     print_diagram(
         rt,
@@ -548,6 +487,11 @@ fn print_diagram_counts(rt: &LibcRuntime) -> Result<(), AnyError> {
         span(0, 3),
         span(0, 65536),
     )?;
+    Ok(())
+}
+
+// Many nodes.
+fn print_many_nodes(rt: &LibcRuntime) -> Result<(), AnyError> {
     let mut places = vec![in rt.alloc(); 1u8; 4097]?;
     places[0] = 0;
     places[4095] = 2;
@@ -572,7 +516,7 @@ fn print_diagram_counts(rt: &LibcRuntime) -> Result<(), AnyError> {
     Ok(())
 }
 
-// Where the nodes and arcs of a diagram may lie in pools of four places and four arcs.
+// Where the arcs of a diagram may lie in a pool of four.
 fn print_diagram_pools(rt: &LibcRuntime) -> Result<(), AnyError> {
     let places = [0u8, 1, 1, 2];
     let arcs = [arc(0, 0, 1), arc(0, 1, 2), arc(1, 5, 3), arc(2, 6, 3)];
@@ -602,6 +546,14 @@ fn print_diagram_pools(rt: &LibcRuntime) -> Result<(), AnyError> {
         all,
         span(1, 4),
     )?;
+    Ok(())
+}
+
+// Arcs from the largest start.
+fn print_arc_starts(rt: &LibcRuntime) -> Result<(), AnyError> {
+    let places = [0u8, 1, 1, 2];
+    let arcs = [arc(0, 0, 1), arc(0, 1, 2), arc(1, 5, 3), arc(2, 6, 3)];
+    let all = span(0, 4);
     print_diagram(
         rt,
         "one arc from the largest start",
@@ -618,6 +570,14 @@ fn print_diagram_pools(rt: &LibcRuntime) -> Result<(), AnyError> {
         all,
         span(usize::MAX, 0),
     )?;
+    Ok(())
+}
+
+// Where the nodes of a diagram may lie in a pool of four places.
+fn print_node_pools(rt: &LibcRuntime) -> Result<(), AnyError> {
+    let places = [0u8, 1, 1, 2];
+    let arcs = [arc(0, 0, 1), arc(0, 1, 2), arc(1, 5, 3), arc(2, 6, 3)];
+    let all = span(0, 4);
     print_diagram(
         rt,
         "nodes that pass the pool",
@@ -857,13 +817,32 @@ fn print_pairs(rt: &LibcRuntime, tables: usize, diagrams: usize) -> Result<(), A
     Ok(())
 }
 
+// Banks of tables.
+fn print_all_tables(rt: &LibcRuntime) -> Result<(), AnyError> {
+    print_table_rows(rt)?;
+    print_row_twice(rt)?;
+    print_last_row(rt)?;
+    print_row_past_width(rt)?;
+    print_table_lines(rt)?;
+    print_table_starts(rt)?;
+    print_table_bytes(rt)?;
+    print_unused_bytes(rt)?;
+    print_two_faults(rt)?;
+    print_byte_before_row(rt)?;
+    print_row_before_byte(rt)
+}
+
 // All of them.
 fn run(rt: &LibcRuntime) -> Result<(), AnyError> {
-    print_table_rows(rt)?;
-    print_table_lines(rt)?;
-    print_table_bytes(rt)?;
+    print_all_tables(rt)?;
     print_diagram_counts(rt)?;
+    print_diagram_rows(rt)?;
+    print_few_nodes(rt)?;
+    print_many_arcs(rt)?;
+    print_many_nodes(rt)?;
     print_diagram_pools(rt)?;
+    print_arc_starts(rt)?;
+    print_node_pools(rt)?;
     print_diagram_nodes(rt)?;
     print_diagram_arcs(rt)?;
     print_diagram_faults(rt)?;
