@@ -1,4 +1,5 @@
 // The calls at their limits: what is accepted, and by which number the rest is refused.
+ghost use mathlib.Core.Path.{_≡_};
 use banks::bank::Bank;
 use banks::refusal::BankErrorNumbered;
 use banks::refusal::CallErrorNumbered;
@@ -18,7 +19,9 @@ use texts::number_text;
 use texts::sets_text;
 
 // A difference between the rows 0 and 1.
-fn between(relation: Relation, offset: i32) -> Difference {
+fn between(relation: Relation, offset: i32) -> Difference
+    ensures { λ r. ⌜ r ≡ record { x = 0; y = 1; offset = offset; relation = relation } ⌝ }
+{
     Difference {
         x: 0,
         y: 1,
