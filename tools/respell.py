@@ -14,7 +14,7 @@ import sys
 
 TOKEN = r"[^\s(){}\[\]:.,;`⌜⌝]+"
 DECLARED = re.compile(r"^(\s*)((?:pub |abbrev |unfoldable |record |data )*)(" + TOKEN + r")((?:\s+[({][^(){}]*[)}])*)\s*:\s+(\S+)", re.M)
-IMPORT = re.compile(r"^\s*(?:ghost )?use ([^\s{}]+)\.\{([^}]*)\}", re.M)
+IMPORT = re.compile(r"^\s*(?:ghost |pub )?use ([^\s{}]+)\.\{([^}]*)\}", re.M)
 
 
 def files(root):
