@@ -1,4 +1,6 @@
 // Banks of tables and of diagrams, and pairs of banks, at their limits: what is accepted, and by which number the rest is refused.
+#![tactic(auto)]
+
 ghost use Rattle.std.specs.Prelude.{◌≡◌};
 
 use banks::bank::Bank;

@@ -1,4 +1,6 @@
 // Rule banks: what rules mean, the trait of every bank, and what is asked of a bank of any kind.
+#![tactic(auto)]
+
 pub mod bank;
 pub mod limits;
 pub mod pair;

@@ -1,4 +1,6 @@
 // Worked cases, proved as one table.
+#![tactic(auto)]
+
 ghost use Rattle.std.specs.Prelude.{◌≡◌, length};
 ghost use Rattle.cases.specs.Cases.{table, CasesHold};
 

@@ -1,4 +1,6 @@
 // Banks of layered decision diagrams.
+#![tactic(auto)]
+
 pub mod bank;
 pub mod diagram;
 mod node_set;

@@ -1,4 +1,6 @@
 // Banks of difference rules.
+#![tactic(auto)]
+
 pub mod bank;
 pub mod difference;
 mod partner;

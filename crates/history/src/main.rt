@@ -1,4 +1,6 @@
 // Whole histories of sheets: orders that need one saw, a settle by each waiting list, and trials that are gone back from.
+#![tactic(auto)]
+
 ghost use Rattle.std.specs.Prelude.{◌≡◌, Decides};
 
 use banks::bank::Bank;

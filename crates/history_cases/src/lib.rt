@@ -1,4 +1,6 @@
 // Worked cases of calls on a sheet, proved as one table.
+#![tactic(auto)]
+
 ghost use Rattle.std.specs.Prelude.{◌≡◌, length};
 ghost use Rattle.history_cases.specs.Runs.{table, CasesHold};
 

@@ -1,4 +1,6 @@
 // What a planner does with marks: a trial that goes back where it fails, and a mark within another.
+#![tactic(auto)]
+
 ghost use Rattle.std.specs.Prelude.{◌≡◌, pos};
 ghost use Rattle.differences.specs.declared.difference.Relation.TheVariants.{Unequal};
 

@@ -1,4 +1,6 @@
 // A planner's question: one saw, some orders and their free hours. Which order may still be released?
+#![tactic(auto)]
+
 use banks::bank::Bank;
 use banks::limits::MAX_ARITY;
 use banks::pair::Pair;

@@ -48,7 +48,7 @@ pub trait Test {
 
 // The choices of a mask that pass a test.
 pub fn keep<T: Test>(mask: u64, test: &T) -> u64
-    ensures { Kept (passes test.now) mask result }
+    ensures { Kept (T.passes test.now) mask result }
 {
     let mut passing = mask;
     for choice in Walk::over(mask) {

@@ -1,4 +1,6 @@
 // The sheet: strike, hold, mark, back, keep and settle, with marks that must be spent.
+#![tactic(auto)]
+
 pub mod making;
 pub mod mark;
 pub mod marking;

@@ -1,4 +1,6 @@
 // The calls of a stack and of a sheet at their limits.
+#![tactic(auto)]
+
 use sheet::mark::Mark;
 
 mod calls;

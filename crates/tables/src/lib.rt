@@ -1,4 +1,6 @@
 // Banks of table rules.
+#![tactic(auto)]
+
 pub mod bank;
 mod line;
 pub mod refusal;

@@ -1,4 +1,6 @@
 // How the programs write what the library answers.
+#![tactic(auto)]
+
 ghost use Rattle.std.specs.Prelude.{◌≡◌, ◌++◌, IfOk, string_bytes, decimal, OnOk};
 ghost use Rattle.rows.specs.Choices.{members};
 ghost use Rattle.texts.specs.Texts.{further, listed, set_text, sets_text, refusal_text, answer_text, number_text};

@@ -1,4 +1,6 @@
 // Waiting lists: what every list means, and the two that there are.
+#![tactic(auto)]
+
 pub mod classed;
 pub mod list;
 mod numbers;

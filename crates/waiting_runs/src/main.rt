@@ -1,4 +1,6 @@
 // Runs of waiting lists: what is put, taken and refused in long mixed rows of calls.
+#![tactic(auto)]
+
 ghost use Rattle.std.specs.Prelude.{◌≡◌, ℕ, ◌+◌, ◌*◌, ◌%◌, ◌<◌, slice_index};
 ghost use Rattle.waiting.specs.Waiting.{Empty, how_many};
 

@@ -6,7 +6,7 @@ use Rattle.rows.proofs.walk.keep.Goals as goal
 pub loop-choice-init : goal.loop-choice-init
 loop-choice-init g c =
     let Passes = g.T.Test.passes c.args.test.now in
-    let all = ap (λ w. w.rest) c.into-iter-choice-iterator.ensures.into-iter-gives ∙ c.over-choice-items.ensures in
+    let all = ap (λ w. w.rest) c.into_iter-choice-iterator.ensures.into_iter_gives ∙ c.over-choice-items.ensures in
     subst (λ (rest : ℕ). Keeping Passes c.args.mask rest c.args.mask) (sym all) (keeping_none Passes c.args.mask)
 
 pub loop-choice-preserved-then-not-passes-at : goal.loop-choice-preserved-then-not-passes-at
@@ -18,7 +18,7 @@ loop-choice-preserved-then-not-passes-at g c =
 pub loop-choice-preserved : goal.loop-choice-preserved
 loop-choice-preserved g c =
     keeping_passed (g.T.Test.passes c.args.test.now) c.args.mask _ _ c.in-Some.choice c.in-Some.ensures.steps.1
-    c.loop-choice.passing (c.if-not-passes-at.ensures.0 refl) c.loop-choice.invariant
+    c.loop-choice.passing (c.if-not-passes_at.ensures.0 refl) c.loop-choice.invariant
 
 pub returns : goal.returns
 returns g c =
