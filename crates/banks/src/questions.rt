@@ -37,7 +37,7 @@ fn no_row_empty(rows: &[u64]) -> bool
 
 // Whether every choice of the rows has support in a rule.
 fn supported_by<B: Bank>(bank: &B, rule: usize, rows: &[u64]) -> Result<bool, CallError>
-    ensures { SupportedByAnswer (wide bank.now) (rules bank.now) rule rows.now result }
+    ensures { SupportedByAnswer (B.wide bank.now) (B.rules bank.now) rule rows.now result }
 {
     let mut masks = [0u64; MAX_ARITY];
     bank.support(rule, rows, &mut masks)?;
@@ -52,7 +52,7 @@ fn supported_by<B: Bank>(bank: &B, rule: usize, rows: &[u64]) -> Result<bool, Ca
 
 // Whether a sheet, given by the masks of its rows, is supported for the rules of a bank.
 pub fn supported<B: Bank>(bank: &B, rows: &[u64]) -> Result<bool, CallError>
-    ensures { SupportedAnswer (wide bank.now) (rules bank.now) rows.now result }
+    ensures { SupportedAnswer (B.wide bank.now) (B.rules bank.now) rows.now result }
 {
     if rows.len() < bank.width() {
         return Err(CallError::TooFewRows);
@@ -76,7 +76,7 @@ fn narrowed<B: Bank>(
     row: usize,
     mask: u64,
 ) -> Result<u64, CallError>
-    ensures { NarrowedAnswer (wide bank.now) (rules bank.now) rule rows.now row mask result }
+    ensures { NarrowedAnswer (B.wide bank.now) (B.rules bank.now) rule rows.now row mask result }
 {
     let mut masks = [0u64; MAX_ARITY];
     bank.support(rule, rows, &mut masks)?;
@@ -91,7 +91,7 @@ fn narrowed<B: Bank>(
 
 // The choices of a row that have support in every rule of a bank. In a row that is not there no choice stands.
 pub fn supported_choices<B: Bank>(bank: &B, rows: &[u64], row: usize) -> Result<u64, CallError>
-    ensures { ChoicesAnswer (wide bank.now) (rules bank.now) rows.now row result }
+    ensures { ChoicesAnswer (B.wide bank.now) (B.rules bank.now) rows.now row result }
 {
     if rows.len() < bank.width() {
         return Err(CallError::TooFewRows);
@@ -108,7 +108,7 @@ pub fn supported_choices<B: Bank>(bank: &B, rows: &[u64], row: usize) -> Result<
 
 // Whether a rule has a live tuple on the rows.
 fn has_live_tuple<B: Bank>(bank: &B, rule: usize, rows: &[u64]) -> Result<bool, CallError>
-    ensures { LiveAnswer (wide bank.now) (rules bank.now) rule rows.now result }
+    ensures { LiveAnswer (B.wide bank.now) (B.rules bank.now) rule rows.now result }
 {
     let mut masks = [0u64; MAX_ARITY];
     bank.support(rule, rows, &mut masks)?;
@@ -142,7 +142,7 @@ fn rows_of(plan: &[u8]) -> [u64; MAX_WIDTH]
 
 // Whether a plan, one choice for each row, meets every rule of a bank.
 pub fn meets<B: Bank>(bank: &B, plan: &[u8]) -> Result<bool, CallError>
-    ensures { MeetsAnswer (wide bank.now) (rules bank.now) plan.now result }
+    ensures { MeetsAnswer (B.wide bank.now) (B.rules bank.now) plan.now result }
 {
     if plan.len() < bank.width() {
         return Err(CallError::TooFewRows);

@@ -1,6 +1,6 @@
 -- The loop that keeps the choices of a mask that pass a test: a choice that is left passes or is still to be walked over, and none that
 -- passes is lost.
-use Rattle.std.proofs.Common.{◌≡◌, ℕ, true, ◌⊎◌, sym, ap, ◌∙◌, subst, inl, inr, ⊎_elim}
+use Rattle.std.proofs.Common.{◌≡◌, ℕ, true, ◌⊎◌, sym, subst, inl, inr, ⊎_elim}
 use Rattle.std.proofs.lemmas.Bool.{cases_eq, both_ways}
 use Rattle.rows.specs.Choices.{stands, Kept, Without}
 use Rattle.rows.proofs.Masks.{stands_zero, without_stood, without_stays}

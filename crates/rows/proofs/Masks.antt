@@ -1,10 +1,10 @@
 -- The laws of `stands`. Later proofs reach masks only through them.
-use Rattle.std.proofs.Common.{◌≡◌, ℕ, zero, suc, ◌+◌, ◌-◌, ◌*◌, ◌/◌, ◌%◌, ◌^◌, ◌<◌, ◌≤◌, Bool, true, false, cond, not, ◌&&◌, ◌||◌, eqb, ◌⊎◌, List, [], ◌∷◌, length, Decides, filter, sym, refl, ap, ◌∙◌, subst, inl, inr, ⊎_elim, lt_of_lt_of_le, add-zero, mod-lt, mod-eq_of_lt, pow-suc, div-add-mod', zero-add, div-one, add-one, one-add, arith, lit<, pow_pos, pow_mono, pow-add, shr-shr, shr_lt}
-use native.Mathlib.Nat.{zero-div, zero-mod, div-eq_of_lt, mul-mod_left}
+use Rattle.std.proofs.Common.{◌≡◌, ℕ, zero, suc, ◌+◌, ◌-◌, ◌*◌, ◌/◌, ◌%◌, ◌^◌, ◌<◌, ◌≤◌, Bool, true, false, cond, not, ◌&&◌, ◌||◌, eqb, List, [], ◌∷◌, length, Decides, filter, sym, refl, ap, ◌∙◌, subst, ⊎_elim, lt_of_lt_of_le, mod-lt, pow-suc, div-add-mod', zero-add, div-one, add-one, one-add, arith, lit<, pow_mono, pow-add, shr-shr, shr_lt}
+use native.Mathlib.Nat.{zero-div, div-eq_of_lt, mul-mod_left}
 use lib.Bits.{bit_and, bit_or, bit_xor, and_shr, or_shr, xor_shr, and_mod, or_mod, xor_mod, and_lt, and_le_r}
 use lib.Count.{ones, ones_step, count_trailing_zeros, under}
 use lib.Pow.{pow-lt, shl-shr}
-use Rattle.std.proofs.lemmas.Bool.{cases_lt, cases_eq, cases_order, cases_Bool, eqb-true, eqb-false, eq-eqb, ne_eqb, both_ways, and_parts, and_from, and_left, and_right, true≢false, not-true, cond-true, cond-false}
+use Rattle.std.proofs.lemmas.Bool.{cases_lt, cases_eq, cases_Bool, eqb-true, eqb-false, eq-eqb, ne_eqb, both_ways, and_parts, and_from, and_left, and_right, not-true, cond-true, cond-false}
 use Rattle.std.specs.List.{range_with_len}
 use Rattle.rows.specs.Choices.{choices, stands, members, Without, Lowest}
 

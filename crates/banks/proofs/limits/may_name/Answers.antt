@@ -19,7 +19,7 @@ returns-then-row-width c =
     let rows = c.args.rows.now in
     let i = c.loop-place.place in
     let w = c.args.width in
-    let some : 1 ≤ length rows = omega (arith, eqb-false (length rows) 0 (sym c.if-is-empty.ensures)) in
+    let some : 1 ≤ length rows = omega (arith, eqb-false (length rows) 0 (sym c.if-is_empty.ensures)) in
     let front = drop_more rows i 0 c.loop-place-test.true in
     let failed : fine w (get_or rows i 0 ∷ drop (i + 1) rows) ≡ false =
     elim c.then-row-width.branch [
@@ -28,7 +28,7 @@ returns-then-row-width c =
           (searched rows (i + 1) (get_or rows i 0) p.contains.result p.contains.ensures.cases ∙ p.if-contains.true)
     ]
     in
-    sym (may_name_fine w rows some c.if-rows-gt-MAX-ARITY.false ∙ sym c.loop-place.invariant ∙ ap (fine w) front ∙ failed)
+    sym (may_name_fine w rows some c.if-rows-gt-MAX_ARITY.false ∙ sym c.loop-place.invariant ∙ ap (fine w) front ∙ failed)
 
 pub loop-place-preserved : goal.loop-place-preserved
 loop-place-preserved c =
@@ -43,5 +43,5 @@ pub returns : goal.returns
 returns c =
     let rows = c.args.rows.now in
     let w = c.args.width in
-    let some : 1 ≤ length rows = omega (arith, eqb-false (length rows) 0 (sym c.if-is-empty.ensures)) in
-    sym (may_name_fine w rows some c.if-rows-gt-MAX-ARITY.false ∙ sym c.loop-place.invariant ∙ ap (fine w) (drop_all c.loop-place.place rows c.loop-place-test.false))
+    let some : 1 ≤ length rows = omega (arith, eqb-false (length rows) 0 (sym c.if-is_empty.ensures)) in
+    sym (may_name_fine w rows some c.if-rows-gt-MAX_ARITY.false ∙ sym c.loop-place.invariant ∙ ap (fine w) (drop_all c.loop-place.place rows c.loop-place-test.false))

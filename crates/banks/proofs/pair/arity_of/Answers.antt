@@ -9,8 +9,8 @@ returns-then-rule-split g c =
     let Rs = g.A.Bank.rules c.args.first.now in
     let Ss = g.B.Bank.rules c.args.second.now in
     let k = c.args.rule in
-    let inside : k < length (pair_rules Rs Ss) = omega (arith, c.count-of.ensures) in
-    let low : k < length Rs = omega (arith, c.rule-count-split.ensures) in
+    let inside : k < length (pair_rules Rs Ss) = omega (arith, c.count_of.ensures) in
+    let low : k < length Rs = omega (arith, c.rule_count-split.ensures) in
     arity_moved (pair_rules Rs Ss) Rs k k inside low (of_first Rs Ss k inside low) c.arity.result c.arity.ensures
 
 pub returns-else-rule-split : goal.returns-else-rule-split
@@ -18,8 +18,8 @@ returns-else-rule-split g c =
     let Rs = g.A.Bank.rules c.args.first.now in
     let Ss = g.B.Bank.rules c.args.second.now in
     let k = c.args.rule in
-    let inside : k < length (pair_rules Rs Ss) = omega (arith, c.count-of.ensures) in
-    let high : length Rs ≤ k = omega (arith, c.rule-count-split.ensures) in
+    let inside : k < length (pair_rules Rs Ss) = omega (arith, c.count_of.ensures) in
+    let high : length Rs ≤ k = omega (arith, c.rule_count-split.ensures) in
     let there = in_second Rs Ss k inside high in
     arity_moved (pair_rules Rs Ss) Ss k (k - length Rs) inside there (of_second Rs Ss k inside high) c.arity-else-rule-split.result
-    (subst (λ (n : ℕ). ArityAnswer Ss (k - n) c.arity-else-rule-split.result) c.rule-count-split.ensures c.arity-else-rule-split.ensures)
+    (subst (λ (n : ℕ). ArityAnswer Ss (k - n) c.arity-else-rule-split.result) c.rule_count-split.ensures c.arity-else-rule-split.ensures)

@@ -6,4 +6,4 @@ pub returns-then-fit : goal.returns-then-fit
 returns-then-fit g c =
     let Rs = g.A.Bank.rules c.args.first.now in
     let Ss = g.B.Bank.rules c.args.second.now in
-    omega (arith, pair_count Rs Ss (sym c.if-fit.ensures), c.rule-count.ensures, c.rule-count-then-fit.ensures)
+    omega (arith, pair_count Rs Ss (sym c.if-fit.ensures), c.rule_count.ensures, c.rule_count-then-fit.ensures)

@@ -9,12 +9,12 @@ returns-then-rule-split g c =
     let Rs = g.A.Bank.rules c.args.first.now in
     let Ss = g.B.Bank.rules c.args.second.now in
     let k = c.args.rule in
-    let inside : k < length (pair_rules Rs Ss) = omega (arith, c.count-of.ensures) in
-    let low : k < length Rs = omega (arith, c.rule-count-split.ensures) in
+    let inside : k < length (pair_rules Rs Ss) = omega (arith, c.count_of.ensures) in
+    let low : k < length Rs = omega (arith, c.rule_count-split.ensures) in
     let s = c.args.rows.now in
     let w = g.A.Bank.wide c.args.first.now in
     let u = g.B.Bank.wide c.args.second.now in
-    let wide_enough : pair_width w Rs u Ss ≤ length s = omega (arith, c.width-of.ensures) in
+    let wide_enough : pair_width w Rs u Ss ≤ length s = omega (arith, c.width_of.ensures) in
     let enough = rows_suffice Rs Ss k inside w u (length s) wide_enough in
     support_moved (pair_rules Rs Ss) Rs k k inside low (of_first Rs Ss k inside low) (pair_width w Rs u Ss) w s c.args.masks.now c.support.new.masks c.support.result wide_enough enough.0 c.support.ensures
 
@@ -23,13 +23,13 @@ returns-else-rule-split g c =
     let Rs = g.A.Bank.rules c.args.first.now in
     let Ss = g.B.Bank.rules c.args.second.now in
     let k = c.args.rule in
-    let inside : k < length (pair_rules Rs Ss) = omega (arith, c.count-of.ensures) in
-    let high : length Rs ≤ k = omega (arith, c.rule-count-split.ensures) in
+    let inside : k < length (pair_rules Rs Ss) = omega (arith, c.count_of.ensures) in
+    let high : length Rs ≤ k = omega (arith, c.rule_count-split.ensures) in
     let there = in_second Rs Ss k inside high in
     let s = c.args.rows.now in
     let w = g.A.Bank.wide c.args.first.now in
     let u = g.B.Bank.wide c.args.second.now in
-    let wide_enough : pair_width w Rs u Ss ≤ length s = omega (arith, c.width-of.ensures) in
+    let wide_enough : pair_width w Rs u Ss ≤ length s = omega (arith, c.width_of.ensures) in
     let enough = rows_suffice Rs Ss k inside w u (length s) wide_enough in
     support_moved (pair_rules Rs Ss) Ss k (k - length Rs) inside there (of_second Rs Ss k inside high) (pair_width w Rs u Ss) u s c.args.masks.now c.support-else-rule-split.new.masks c.support-else-rule-split.result wide_enough enough.1
-    (subst (λ (n : ℕ). SupportAnswer u Ss (k - n) s c.args.masks.now c.support-else-rule-split.new.masks c.support-else-rule-split.result) c.rule-count-split.ensures c.support-else-rule-split.ensures)
+    (subst (λ (n : ℕ). SupportAnswer u Ss (k - n) s c.args.masks.now c.support-else-rule-split.new.masks c.support-else-rule-split.result) c.rule_count-split.ensures c.support-else-rule-split.ensures)

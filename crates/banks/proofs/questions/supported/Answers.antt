@@ -14,9 +14,9 @@ returns-then-not-branch g c =
     let bank = c.args.bank.now in
     let s = c.args.rows.now in
     let enough : g.B.Bank.wide bank ≤ length s = omega (arith, c.width.ensures) in
-    let rule_in : c.loop-rule.rule < length (g.B.Bank.rules bank) = omega (arith, c.rule-count-rule-end.ensures) in
+    let rule_in : c.loop-rule.rule < length (g.B.Bank.rules bank) = omega (arith, c.rule_count-rule-end.ensures) in
     let none = first_past _ [] (lt_fits_not (length s) (g.B.Bank.wide bank) (plain 24) enough) in
-    let answered = c.in-ok-supported-by.ensures.1 in (
+    let answered = c.in_ok-supported_by.ensures.1 in (
       none,
       (
         (λ e. absurd (false≢true e)),
@@ -25,7 +25,7 @@ returns-then-not-branch g c =
     )
 
 pub loop-rule-preserved : goal.loop-rule-preserved
-loop-rule-preserved g c = below_more _ _ c.loop-rule.invariant (c.in-ok-supported-by.ensures.1.0 c.if-not-branch.false)
+loop-rule-preserved g c = below_more _ _ c.loop-rule.invariant (c.in_ok-supported_by.ensures.1.0 c.if-not-branch.false)
 
 pub returns : goal.returns
 returns g c =
@@ -36,8 +36,8 @@ returns g c =
       none,
       (
         (λ _. record {
-          rows = c.if-not-no-row-empty.ensures.0 refl;
-          rules = All-from_get_or (SupportedBy s) (g.B.Bank.rules bank) _ (λ k h. c.loop-rule.invariant k (omega (arith, c.rule-count-rule-end.ensures)));
+          rows = c.if-not-no_row_empty.ensures.0 refl;
+          rules = All-from_get_or (SupportedBy s) (g.B.Bank.rules bank) _ (λ k h. c.loop-rule.invariant k (omega (arith, c.rule_count-rule-end.ensures)));
         }),
         (λ _. refl),
       ),

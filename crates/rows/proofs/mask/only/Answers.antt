@@ -1,4 +1,4 @@
-use Rattle.std.proofs.Common.{true, false, ◌&&◌, eqb, sym, refl, ap, ◌∙◌}
+use Rattle.std.proofs.Common.{false, eqb, sym, refl, ◌∙◌}
 use Rattle.std.proofs.lemmas.Nat.{one_shl}
 use Rattle.std.proofs.lemmas.Bool.{lt-ltb, le-ltb, and_right}
 use Rattle.rows.proofs.Masks.{stands_bit, stands_zero, and_true}

@@ -9,10 +9,10 @@ loop-choice-init g c =
     let all = ap (λ w. w.rest) c.into_iter-choice-iterator.ensures.into_iter_gives ∙ c.over-choice-items.ensures in
     subst (λ (rest : ℕ). Keeping Passes c.args.mask rest c.args.mask) (sym all) (keeping_none Passes c.args.mask)
 
-pub loop-choice-preserved-then-not-passes-at : goal.loop-choice-preserved-then-not-passes-at
-loop-choice-preserved-then-not-passes-at g c =
+pub loop-choice-preserved-then-not-passes_at : goal.loop-choice-preserved-then-not-passes_at
+loop-choice-preserved-then-not-passes_at g c =
     keeping_failed (g.T.Test.passes c.args.test.now) c.args.mask _ _ c.in-Some.choice c.in-Some.ensures.steps.1
-    c.loop-choice.passing c.without-passing.result (λ p. false≢true (c.if-not-passes-at.ensures.1 p)) c.without-passing.ensures
+    c.loop-choice.passing c.without-passing.result (λ p. false≢true (c.if-not-passes_at.ensures.1 p)) c.without-passing.ensures
     c.loop-choice.invariant
 
 pub loop-choice-preserved : goal.loop-choice-preserved

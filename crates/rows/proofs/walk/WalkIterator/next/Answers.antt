@@ -1,4 +1,4 @@
-use Rattle.std.proofs.Common.{◌<◌, arith, rules}
+use Rattle.std.proofs.Common.{arith, rules}
 use lib.Count.{count_trailing_zeros}
 use Rattle.rows.proofs.Masks.{lowest_is, without_lt}
 use Rattle.rows.proofs.walk.WalkIterator.next.Goals as goal
