@@ -3,9 +3,9 @@ use Rattle.std.proofs.Common.{◌≡◌, ℕ, ◌<◌, ◌≤◌, false, List, [
 use lib.ListN.{get_or-map}
 use Rattle.std.proofs.lemmas.List.{get_or_past, get_or_default, length-map}
 use Rattle.std.proofs.lemmas.Bool.{cases_lt}
-use Rattle.rows.specs.Refusals.{Refusal, plain, fits, first}
+use Rattle.rows.specs.Refusals.{Refusal, plain, first}
 use Rattle.rows.proofs.Refusing.{first_past, first_here, first_none, not_lt_from, not_le_from, lt_fits_not, le_fits, le_fits_not}
-use Rattle.banks.specs.Calls.{rule_at, no_such_rule, no_such_place, too_few_rows, too_few_masks}
+use Rattle.banks.specs.Calls.{rule_at, no_such_rule, too_few_rows, too_few_masks}
 use Rattle.banks.specs.Lawful.{Lawful, max_width}
 use Rattle.banks.specs.Names.{max_arity}
 use Rattle.banks.specs.Rules.{Sheet, Rule, arity, named}

@@ -1,5 +1,5 @@
 -- What a bank's law gives of the rows that a rule names.
-use Rattle.std.proofs.Common.{◌≡◌, ℕ, zero, suc, ◌<◌, ◌≤◌, Bool, true, false, not, ◌&&◌, ◌||◌, eqb, ltb, leb, List, [], ◌∷◌, length, get_or, Decides, sym, refl, ap, ◌∙◌, arith}
+use Rattle.std.proofs.Common.{◌≡◌, ℕ, zero, suc, ◌<◌, ◌≤◌, Bool, true, false, ◌&&◌, eqb, ltb, leb, List, [], ◌∷◌, length, get_or, sym, refl, arith}
 use Rattle.std.specs.List.{IsAnyAnswer}
 use Rattle.std.proofs.lemmas.List.Elements.{contains_decides}
 use Rattle.std.proofs.ByRecursion.{All-get_or}
@@ -8,7 +8,7 @@ use Rattle.std.proofs.lemmas.Bool.Decides.{same_from_decides, Decides-by_or, Dec
 use Rattle.banks.specs.Calls.{rule_at}
 use Rattle.banks.specs.Lawful.{Lawful, max_width, max_rules}
 use Rattle.banks.specs.Names.{may_name, among, apart, below, max_arity}
-use Rattle.banks.specs.Rules.{Rule, arity, named}
+use Rattle.banks.specs.Rules.{Rule}
 
 below_at : (w : ℕ) (rs : List ℕ) (p : ℕ) → below w rs ≡ true → p < length rs → get_or rs p 0 < w
 below_at w [] p e h = absurd (omega arith)
@@ -45,7 +45,7 @@ sized_from w Rs l =
     record { low = leb-true _ _ q.0; high = leb-true _ _ q.1; few = leb-true _ _ p.1 }
 
 -- a search of a list comes to `among`
-pub among_has : (x : ℕ) (xs : List ℕ) (r : Bool) → IsAnyAnswer (λ y t. Decides t (y ≡ x)) xs r → r ≡ among x xs
+pub among_has : (x : ℕ) (xs : List ℕ) (r : Bool) → IsAnyAnswer (λ y t. eqb y x ≡ t) xs r → r ≡ among x xs
 among_has x xs r h =
     same_from_decides r (among x xs) (contains_decides eqb Decides-eqb xs x r h)
     (Decides-by_or (eqb x) (λ y. y ≡ x) (among x) (λ y. Decides-like (eqb x y) sym sym (Decides-eqb x y)) refl (λ _ _. refl) xs)

@@ -1,5 +1,5 @@
 -- Narrowing a mask to the choices that have support: what a loop over the places of a rule, and over the rules of a bank, keeps.
-use Rattle.std.proofs.Common.{◌≡◌, ℕ, ◌+◌, ◌<◌, ◌≤◌, Bool, true, ◌&&◌, ◌⊎◌, List, length, get_or, Decides, sym, refl, ap, ◌∙◌, subst, ⊎_elim, arith, below_none, below_more}
+use Rattle.std.proofs.Common.{◌≡◌, ℕ, ◌+◌, ◌<◌, ◌≤◌, List, length, Decides, sym, ap, ◌∙◌, arith, below_more}
 use lib.Bits.{bit_and}
 use Rattle.std.specs.List.{AllByRecursion as All}
 use Rattle.std.proofs.ByRecursion.{All-get_or, All-from_get_or}

@@ -1,5 +1,5 @@
 -- Rows in each of which only the choice of a plan stands: a rule has a live tuple there exactly where the plan meets it.
-use Rattle.std.proofs.Common.{◌≡◌, ℕ, ◌<◌, ◌≤◌, true, ◌&&◌, eqb, ltb, List, map, length, get_or, sym, refl, ap, ◌∙◌, subst, arith}
+use Rattle.std.proofs.Common.{◌≡◌, ℕ, ◌<◌, ◌≤◌, true, eqb, ltb, List, map, length, get_or, sym, refl, ap, ◌∙◌, subst, arith}
 use lib.ListN.{get_or-map}
 use Rattle.std.proofs.lemmas.List.{get_or_default, length-map, ext_get_or}
 use Rattle.std.proofs.lemmas.Bool.{and_parts, and_from, eqb-true, eq-eqb, lt-ltb}

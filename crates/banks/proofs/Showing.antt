@@ -1,10 +1,10 @@
 -- What the masks that show support say of a sheet.
-use Rattle.std.proofs.Common.{◌≡◌, ℕ, ◌^◌, ◌<◌, true, not, eqb, List, length, get_or, Decides, sym, refl, ap, ◌∙◌, subst}
+use Rattle.std.proofs.Common.{◌≡◌, ℕ, ◌^◌, ◌<◌, true, not, eqb, List, get_or, Decides, sym, refl, subst}
 use Rattle.std.proofs.lemmas.Bool.Decides.{same_from_decides, Decides-like}
 use Rattle.rows.specs.Choices.{choices, stands}
 use Rattle.rows.proofs.Masks.{same_mask, some_decides}
 use Rattle.banks.specs.Calls.{Shows}
-use Rattle.banks.specs.Rules.{Sheet, Tuple, Rule, arity, named, row, Live, SupportAt, SupportIn, SupportedBy}
+use Rattle.banks.specs.Rules.{Sheet, Tuple, Rule, arity, named, row, Live, SupportAt, SupportedBy}
 
 -- only a standing choice has support
 pub support_stands : (s : Sheet) (R : Rule) (p v : ℕ) → SupportAt s R p v → stands (row s (named R p)) v ≡ true

@@ -1,5 +1,5 @@
 -- What the calls of a rule bank answer, read off its width and its list of rules.
-use Rattle.std.specs.Prelude.{◌≡◌, ℕ, ◌<◌, ◌≤◌, Bool, true, false, List, [], ◌∷◌, length, Decides, Option, Result, nat_le, nat_lt, slice_index, slice_index_or}
+use Rattle.std.specs.Prelude.{◌≡◌, ℕ, ◌<◌, ◌≤◌, Bool, false, List, [], ◌∷◌, length, Decides, Option, Result, nat_le, nat_lt, slice_index, slice_index_or}
 use Rattle.std.specs.List.{AllByRecursion as All}
 use Rattle.rows.specs.Choices.{stands, Kept}
 use Rattle.rows.specs.Refusals.{Refusal, plain, fits, first, Answer}

@@ -1,5 +1,5 @@
 -- What every rule bank owes: a width, and a list of rules that name rows below it.
-use Rattle.std.specs.Prelude.{◌≡◌, ℕ, Bool, true, ◌&&◌, List, [], length, nat_le}
+use Rattle.std.specs.Prelude.{◌≡◌, ℕ, Bool, true, ◌&&◌, List, length, nat_le}
 use Rattle.std.specs.List.{AllByRecursion as All}
 use Rattle.banks.specs.Names.{may_name}
 use Rattle.banks.specs.Rules.{Rule}

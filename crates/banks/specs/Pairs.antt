@@ -1,6 +1,6 @@
 -- A pair of two banks: its width is the larger one, and its rules are the first bank's, then the second's. Two banks of more than 512 rules
 -- together make no pair: what is answered then means width 1 and no rules.
-use Rattle.std.specs.Prelude.{ℕ, ◌+◌, max, Bool, true, false, cond, not, List, [], ◌∷◌, ◌++◌, length, Option, nat_le}
+use Rattle.std.specs.Prelude.{ℕ, ◌+◌, max, Bool, cond, not, List, [], ◌∷◌, ◌++◌, length, Option, nat_le}
 use Rattle.rows.specs.Refusals.{Refusal, plain, fits, first}
 use Rattle.banks.specs.Lawful.{max_rules}
 use Rattle.banks.specs.Rules.{Rule}

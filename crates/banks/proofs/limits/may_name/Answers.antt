@@ -1,4 +1,4 @@
-use Rattle.std.proofs.Common.{◌≡◌, ℕ, ◌+◌, ◌-◌, ◌≤◌, Bool, false, List, ◌∷◌, length, get_or, take, drop, Decides, sym, refl, ap, ◌∙◌, subst, arith}
+use Rattle.std.proofs.Common.{◌≡◌, ℕ, ◌+◌, ◌-◌, ◌≤◌, Bool, false, eqb, List, ◌∷◌, length, get_or, take, drop, sym, refl, ap, ◌∙◌, arith}
 use Rattle.std.specs.List.{IsAnyAnswer}
 use Rattle.std.proofs.lemmas.List.{drop_more, drop_all, take_rest}
 use Rattle.std.proofs.lemmas.Bool.{lt-ltb, le-ltb, eqb-false}
@@ -8,7 +8,7 @@ use Rattle.banks.proofs.limits.may_name.Goals as goal
 use Rattle.banks.proofs.limits.may_name.Goals.{then-row-width-via-then-row-width, then-row-width-via-else-row-width+then-contains}
 
 -- what a search of the rows from a place on answers
-searched : (rows : List ℕ) (i x : ℕ) (r : Bool) → IsAnyAnswer (λ y t. Decides t (y ≡ x)) (take (length rows - i) (drop i rows)) r → among x (drop i rows) ≡ r
+searched : (rows : List ℕ) (i x : ℕ) (r : Bool) → IsAnyAnswer (λ y t. eqb y x ≡ t) (take (length rows - i) (drop i rows)) r → among x (drop i rows) ≡ r
 searched rows i x r h = ap (among x) (sym (take_rest rows i)) ∙ sym (among_has x (take (length rows - i) (drop i rows)) r h)
 
 pub loop-place-init : goal.loop-place-init

@@ -1,4 +1,4 @@
-use Rattle.std.proofs.Common.{◌≡◌, ℕ, ◌-◌, ◌<◌, ◌≤◌, length, sym, subst, arith}
+use Rattle.std.proofs.Common.{ℕ, ◌-◌, ◌<◌, ◌≤◌, length, subst, arith}
 use Rattle.banks.specs.Calls.{RowAnswer}
 use Rattle.banks.specs.Pairs.{pair_rules}
 use Rattle.banks.proofs.Pairing.{row_moved, of_first, of_second, in_second}

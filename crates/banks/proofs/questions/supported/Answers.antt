@@ -1,4 +1,4 @@
-use Rattle.std.proofs.Common.{◌≡◌, ℕ, ◌<◌, ◌≤◌, [], length, sym, refl, ◌∙◌, arith, below_none, below_more}
+use Rattle.std.proofs.Common.{◌<◌, ◌≤◌, [], length, sym, refl, ◌∙◌, arith, below_none, below_more}
 use Rattle.std.proofs.ByRecursion.{All-get_or, All-from_get_or}
 use Rattle.std.proofs.lemmas.Bool.{false≢true}
 use Rattle.rows.proofs.Refusing.{first_past, lt_fits_not}

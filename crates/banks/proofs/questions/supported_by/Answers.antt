@@ -1,4 +1,4 @@
-use Rattle.std.proofs.Common.{◌≡◌, ℕ, ◌<◌, length, get_or, replicate, sym, refl, ap, ◌∙◌, subst, arith, rules, below_none, below_more}
+use Rattle.std.proofs.Common.{◌≡◌, ◌<◌, get_or, replicate, sym, refl, ap, ◌∙◌, arith, rules, below_none, below_more}
 use Rattle.std.proofs.lemmas.Result.{err_from_is_err_and}
 use Rattle.std.proofs.lemmas.Bool.{false≢true}
 use Rattle.banks.specs.Calls.{rule_at}

@@ -1,4 +1,4 @@
-use Rattle.std.proofs.Common.{◌≡◌, ℕ, ◌<◌, ◌≤◌, [], length, sym, refl, ◌∙◌, subst, arith}
+use Rattle.std.proofs.Common.{◌≡◌, ℕ, ◌≤◌, [], length, subst, arith}
 use Rattle.rows.proofs.Refusing.{first_past, lt_fits_not}
 use Rattle.rows.specs.Refusals.{plain}
 use Rattle.banks.proofs.Narrowing.{Choosing, choosing_more, choosing_all, no_choices}
