@@ -1,5 +1,5 @@
 -- What the rules for nodes and arcs give: places and the nodes of the arcs never fall, and a target comes after its node.
-use Rattle.std.proofs.Common.{◌≡◌, ℕ, zero, suc, ◌-◌, ◌<◌, ◌≤◌, Bool, true, false, not, ◌&&◌, ◌||◌, eqb, ltb, leb, List, length, sym, refl, ap, ◌∙◌, ⊎_elim, arith}
+use Rattle.std.proofs.Common.{◌≡◌, ℕ, zero, suc, ◌-◌, ◌<◌, ◌≤◌, Bool, true, false, ◌&&◌, ◌||◌, eqb, ltb, leb, List, length, sym, ap, ◌∙◌, ⊎_elim, arith}
 use Rattle.std.proofs.lemmas.Bool.{and_parts, or_cases, not-true, eqb-true, eq-eqb, leb-true, ltb-true, cases_eq, cases_lt}
 use Rattle.rows.specs.Choices.{choices}
 use Rattle.diagrams.specs.declared.diagram.Arc.{Arc}

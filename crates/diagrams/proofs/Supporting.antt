@@ -1,9 +1,9 @@
 -- A choice is on a path of standing choices exactly if it has support there.
-use Rattle.std.proofs.Common.{◌≡◌, ℕ, ◌+◌, ◌-◌, ◌<◌, ◌≤◌, true, List, [], ◌∷◌, ◌++◌, length, get_or, Decides, sym, refl, ap, ◌∙◌, subst, arith}
+use Rattle.std.proofs.Common.{◌≡◌, ℕ, ◌+◌, ◌-◌, ◌<◌, true, List, [], ◌∷◌, ◌++◌, length, get_or, Decides, sym, refl, ap, ◌∙◌, subst, arith}
 use Rattle.std.proofs.lemmas.List.{get_or_at}
 use Rattle.std.proofs.lemmas.Bool.Decides.{Decides-like}
 use Rattle.rows.specs.Choices.{stands}
-use Rattle.banks.specs.Rules.{Sheet, Tuple, row, Live, SupportAt}
+use Rattle.banks.specs.Rules.{Sheet, Tuple, row, SupportAt}
 use Rattle.diagrams.specs.declared.diagram.Arc.{Arc}
 use Rattle.diagrams.specs.Diagrams.{rule}
 use Rattle.diagrams.specs.Layers.{place, Layered}

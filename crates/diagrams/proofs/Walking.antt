@@ -1,13 +1,13 @@
 -- Paths along standing choices: how they join, which places they pass, and that they are the paths of the meaning.
-use Rattle.std.proofs.Common.{◌≡◌, ℕ, zero, suc, ◌+◌, ◌-◌, ◌<◌, ◌≤◌, Bool, true, false, ◌&&◌, ◌||◌, eqb, List, [], ◌∷◌, ◌++◌, length, get_or, sym, refl, ap, ◌∙◌, subst, ⊎_elim, arith}
+use Rattle.std.proofs.Common.{◌≡◌, ℕ, zero, suc, ◌+◌, ◌-◌, ◌<◌, Bool, true, ◌&&◌, eqb, List, [], ◌∷◌, ◌++◌, length, get_or, sym, refl, ap, ◌∙◌, subst, ⊎_elim, arith}
 use Rattle.std.proofs.lemmas.Bool.{and_parts, and_from, or_cases, or_left, or_right, eqb-true, eq-eqb, false≢true}
 use Rattle.rows.specs.Choices.{stands}
 use Rattle.banks.specs.Rules.{Tuple}
 use Rattle.diagrams.specs.declared.diagram.Arc.{Arc}
 use Rattle.diagrams.specs.Diagrams.{some, path}
 use Rattle.diagrams.specs.Layers.{place, arc, Layered}
-use Rattle.diagrams.specs.Ways.{Step, Way, Ends, Through}
-use Rattle.diagrams.proofs.Layering.{placed_at, first_place, last_place}
+use Rattle.diagrams.specs.Ways.{Step, Way, Through}
+use Rattle.diagrams.proofs.Layering.{placed_at}
 
 module _ {X : Type 0} (test : X → Bool) (d : X) where
   some_found : (xs : List X) → some test xs ≡ true → (i : ℕ) × (i < length xs) × (test (get_or xs i d) ≡ true)

@@ -1,23 +1,19 @@
 -- What a bank of differences means, and what its support shows.
-use Rattle.std.proofs.Common.{◌≡◌, ℕ, zero, suc, ◌<◌, ◌≤◌, Bool, true, false, not, ◌&&◌, ◌≢◌, List, [], ◌∷◌, map, length, get_or, set, pos, is_some, Some, None, Decides, sym, refl, ap, ◌∙◌, subst, arith}
-use Rattle.std.specs.List.{AllByRecursion as All}
-use Rattle.std.proofs.ByRecursion.{All-get_or, All-map, All-weaker}
-use Rattle.std.proofs.lemmas.List.{get_or-set_same, get_or-set_other, length-map, length-set}
-use Rattle.std.proofs.lemmas.Bool.{not-false}
+use Rattle.std.proofs.Common.{◌≡◌, ℕ, zero, suc, ◌<◌, ◌≤◌, true, false, List, [], ◌∷◌, map, length, get_or, set, pos, is_some, Some, None, Decides, sym, refl, ap, ◌∙◌, subst, arith}
+use Rattle.std.proofs.ByRecursion.{All-get_or}
+use Rattle.std.proofs.lemmas.List.{get_or-set_same, get_or-set_other, length-set}
 use Rattle.std.proofs.lemmas.Bool.Decides.{Decides-like}
 use Rattle.rows.specs.Choices.{stands, Kept}
-use Rattle.rows.specs.Refusals.{fits, first, plain}
-use Rattle.rows.proofs.Refusing.{first_past, first_here, first_none, fits_none, le_fits, le_fits_not}
+use Rattle.rows.specs.Refusals.{first, plain}
+use Rattle.rows.proofs.Refusing.{first_past, first_here, le_fits, le_fits_not}
 use Rattle.banks.specs.Calls.{Shows, rule_at, no_such_rule, no_such_place, too_few_rows, too_few_masks}
-use Rattle.banks.specs.Faults.{at_spot}
-use Rattle.banks.specs.Lawful.{Lawful, may_hold, max_width}
-use Rattle.banks.specs.Names.{may_name}
+use Rattle.banks.specs.Lawful.{max_width}
 use Rattle.banks.specs.Rules.{Sheet, row, arity, named, Live, SupportAt}
 use Rattle.banks.proofs.Calling.{rule_there, rule_found}
 use Rattle.banks.proofs.Faulting.{sound_bank, none_from_test}
 use Rattle.banks.proofs.Naming.{named_from, sized_from}
 use Rattle.banks.proofs.Showing.{support_stands}
-use Rattle.differences.specs.Checks.{fault, refusal, in_bounds}
+use Rattle.differences.specs.Checks.{fault, refusal}
 use Rattle.differences.specs.Differences.{relates, meaning}
 use Rattle.differences.specs.Owed.{Fine, fine_from, lawful_bank}
 use Rattle.differences.specs.declared.difference.Difference.{Difference}

@@ -1,5 +1,5 @@
 -- A sum and a choice are congruent exactly where they leave the same remainder.
-use Rattle.std.proofs.Common.{◌≡◌, ℕ, zero, suc, ◌+◌, ◌-◌, ◌*◌, ◌/◌, ◌%◌, ◌<◌, ◌≤◌, Bool, true, not, eqb, ◌⊎◌, ℤ, pos, negsuc, ◌+ℤ◌, ◌-ℤ◌, nat_abs, Decides, sym, refl, ap, ◌∙◌, subst, inl, inr, ⊎_elim, add-zero, mod-lt, mul-le-mul_left, div-add-mod', mul-one, arith}
+use Rattle.std.proofs.Common.{◌≡◌, ℕ, suc, ◌+◌, ◌-◌, ◌*◌, ◌/◌, ◌%◌, ◌<◌, ◌≤◌, true, eqb, ◌⊎◌, ℤ, pos, negsuc, ◌+ℤ◌, ◌-ℤ◌, nat_abs, Decides, sym, refl, ap, ◌∙◌, inl, inr, ⊎_elim, add-zero, mul-le-mul_left, div-add-mod', mul-one, arith}
 use native.Mathlib.Nat.{add-mod, mul-mod_left, add-mul-mod_self_right, mod-mod, mul-add-mod_self_right}
 use lib.Signed.{le_z}
 use Rattle.std.specs.Int.{int_rem_euclid}

@@ -1,15 +1,15 @@
 -- What is sought at a sum, by the tests of a mask that find it.
-use Rattle.std.proofs.Common.{◌≡◌, ℕ, ◌+◌, ◌-◌, ◌/◌, ◌^◌, ◌<◌, ◌≤◌, Bool, true, false, not, ◌&&◌, eqb, leb, ℤ, pos, negsuc, nat_abs, Decides, sym, refl, ap, ◌∙◌, subst, arith}
+use Rattle.std.proofs.Common.{◌≡◌, ℕ, ◌+◌, ◌-◌, ◌/◌, ◌^◌, ◌<◌, ◌≤◌, Bool, true, false, not, eqb, leb, ℤ, pos, negsuc, nat_abs, Decides, sym, refl, ap, ◌∙◌, subst, arith}
 use lib.Pow.{shr_le}
 use lib.Signed.{le_z, lt_z}
 use Rattle.std.proofs.lemmas.Int.{ints}
-use Rattle.std.proofs.lemmas.Bool.{true≢false, and_parts, and_from, leb-true, le-leb, both_ways, not-true, cases_Bool, eqb-true, eqb-false}
+use Rattle.std.proofs.lemmas.Bool.{true≢false, leb-true, le-leb, both_ways, not-true, eqb-false}
 use Rattle.std.proofs.lemmas.Bool.Decides.{Decides-like, nat_tests}
 use Rattle.rows.specs.Choices.{stands, Without, Lowest}
 use Rattle.rows.proofs.Masks.{some_decides, stands_shr, stands_high, stands_below, without_stood, without_stays}
 use Rattle.differences.specs.Differences.{same}
-use Rattle.differences.specs.Partners.{sought, Finds}
-use Rattle.differences.specs.declared.partner.Seek.TheVariants.{Same, Another, AtLeast, AtMost}
+use Rattle.differences.specs.Partners.{Finds}
+use Rattle.differences.specs.declared.partner.Seek.TheVariants.{Another, AtLeast, AtMost}
 
 -- a sum that is not below 0 is a natural number
 pub non_negative : (z : ℤ) → lt_z z (pos 0) ≡ false → z ≡ pos (nat_abs z)

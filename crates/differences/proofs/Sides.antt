@@ -1,10 +1,10 @@
 -- A difference seen from either of its rows.
-use Rattle.std.proofs.Common.{◌≡◌, ℕ, zero, suc, ◌%◌, ◌^◌, ◌<◌, Bool, true, not, ◌&&◌, eqb, ltb, ℤ, pos, negsuc, ◌+ℤ◌, ◌-ℤ◌, neg_ℤ, nat_abs, sym, refl, ap, ◌∙◌, arith}
-use lib.Signed.{le_z, mag}
+use Rattle.std.proofs.Common.{◌≡◌, ℕ, zero, suc, ◌%◌, ◌^◌, ◌<◌, true, not, eqb, ltb, ℤ, pos, negsuc, ◌+ℤ◌, ◌-ℤ◌, neg_ℤ, nat_abs, refl, ap, ◌∙◌, arith}
+use lib.Signed.{mag}
 use Rattle.std.proofs.lemmas.Int.{ints}
 use Rattle.std.proofs.lemmas.Bool.{ltb-true}
 use Rattle.rows.specs.Choices.{choices}
-use Rattle.differences.specs.Differences.{same, multiple, relates}
+use Rattle.differences.specs.Differences.{same, relates}
 use Rattle.differences.specs.Partners.{partners}
 use Rattle.differences.specs.declared.difference.Relation.{Relation}
 use Rattle.differences.specs.declared.difference.Relation.TheVariants.{Equal, Unequal, AtMost, Congruent}

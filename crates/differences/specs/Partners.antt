@@ -1,6 +1,5 @@
 -- What a choice of one row of a difference seeks in the other row.
 use Rattle.std.specs.Prelude.{◌≡◌, ℕ, ◌%◌, Bool, true, not, ℤ, pos, ◌+ℤ◌, ◌-ℤ◌, int_le}
-use Rattle.std.specs.Int.{int_rem_euclid}
 use Rattle.rows.specs.Choices.{stands}
 use Rattle.differences.specs.Differences.{same, multiple}
 use Rattle.differences.specs.declared.difference.Relation.{Relation}

@@ -1,11 +1,11 @@
-use Rattle.std.proofs.Common.{ℕ, ◌%◌, ◌<◌, sym, ap, ◌∙◌, subst, arith, rules}
+use Rattle.std.proofs.Common.{ℕ, ◌%◌, ◌<◌, sym, ap, ◌∙◌, subst, arith}
 use Rattle.std.proofs.lemmas.Nat.{one_shl, mod_below}
 use Rattle.differences.proofs.Gathering.{Gathering, gathering_none, gathering_more, gathering_all}
 use Rattle.differences.proofs.partner.remainders.Goals as goal
 
 pub loop-choice-init : goal.loop-choice-init
 loop-choice-init c =
-    let all = ap (λ w. w.rest) c.into-iter-choice-iterator.ensures.into-iter-gives ∙ c.over-choice-items.ensures in
+    let all = ap (λ w. w.rest) c.into_iter-choice-iterator.ensures.into_iter_gives ∙ c.over-choice-items.ensures in
     subst (λ (rest : ℕ). Gathering c.args.mask c.args.modulus rest 0) (sym all) (gathering_none c.args.mask c.args.modulus)
 
 pub loop-choice-preserved : goal.loop-choice-preserved

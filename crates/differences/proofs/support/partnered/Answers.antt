@@ -1,4 +1,4 @@
-use Rattle.std.proofs.Common.{◌≡◌, ℕ, ◌<◌, true, ◌&&◌, leb, pos, ◌+ℤ◌, sym, ap, ◌∙◌, subst, arith, w32, SFits}
+use Rattle.std.proofs.Common.{◌≡◌, ◌<◌, leb, pos, ◌+ℤ◌, sym, ap, ◌∙◌, subst, w32, SFits}
 use Rattle.std.specs.Int.{int_rem_euclid}
 use Rattle.std.proofs.lemmas.Int.{to_z-of_z}
 use Rattle.std.proofs.lemmas.Bool.{and_parts, leb-true}

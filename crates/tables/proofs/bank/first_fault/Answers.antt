@@ -14,7 +14,7 @@ returns-in-Err c =
 pub loop-number-preserved : goal.loop-number-preserved
 loop-number-preserved c =
     All-more (λ t. fault c.args.width c.args.pool.now t ≡ None) c.args.tables.now c.loop-number.number no_table
-    c.loop-number-test.true c.loop-number.invariant c.in-default.ensures.0
+    c.loop-number-test.true c.loop-number.invariant c.in_default.ensures.0
 
 pub returns : goal.returns
 returns c =

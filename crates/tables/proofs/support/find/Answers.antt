@@ -17,9 +17,9 @@ returns-then-eq c =
 
 pub loop-line-init : goal.loop-line-init
 loop-line-init c =
-    let it = c.into-iter-line-iterator.ensures.into-iter-gives in
+    let it = c.into_iter-line-iterator.ensures.into_iter_gives in
     scanning_none c.args.bytes.now c.args.masks.now _ _ c.fill.new.self c.requires.0 c.requires.1.0
-    (ap (λ i. i.size) it ∙ c.chunks-exact-line-items.ensures.size) (ap (λ i. i.rest.now) it ∙ c.chunks-exact-line-items.ensures.rest)
+    (ap (λ i. i.size) it ∙ c.chunks_exact-line-items.ensures.size) (ap (λ i. i.rest.now) it ∙ c.chunks_exact-line-items.ensures.rest)
     (cleared c.args.found.now c.args.masks.now c.fill.new.self c.requires.1.1 (c.fill.ensures.after (λ y e. e)))
 
 pub lives-requires : goal.lives-requires

@@ -8,8 +8,8 @@ use Rattle.tables.proofs.support.pick.Goals as goal
 pub loop-place-init : goal.loop-place-init
 loop-place-init c = refl
 
-pub offset-bounds-rows-name : goal.offset-bounds-rows-name
-offset-bounds-rows-name c =
+pub offset_bounds-rows-name : goal.offset_bounds-rows-name
+offset_bounds-rows-name c =
     let low = All-get_or (λ r. (r < length c.args.rows.now) × (r < max_width)) c.args.names.now c.loop-place.place 0 c.loop-place-test.true c.requires.0 in
     record { fits = omega (arith, low.1) }
 

@@ -7,8 +7,8 @@ use Rattle.trail.proofs.Making.{standing_most}
 use Rattle.trail.proofs.Members.{members_few}
 use Rattle.trail.proofs.trail.count_all.Goals as goal
 
-pub overflow-add-count : goal.overflow-add-count
-overflow-add-count c =
+pub overflow_add-count : goal.overflow_add-count
+overflow_add-count c =
     let s = c.args.rows.now in
     let i = c.loop-mask.mask-index in
     let long = length-take-le i s c.loop-mask.auto.mask-index-end in

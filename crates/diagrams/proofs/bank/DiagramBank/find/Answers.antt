@@ -3,8 +3,8 @@ use Rattle.diagrams.specs.Diagrams.{meaning}
 use Rattle.diagrams.proofs.Banking.{rule_in, rules_few, is_rule}
 use Rattle.diagrams.proofs.bank.DiagramBank.find.Goals as goal
 
-pub offset-bounds-self-rule : goal.offset-bounds-self-rule
-offset-bounds-self-rule c =
+pub offset_bounds-self-rule : goal.offset_bounds-self-rule
+offset_bounds-self-rule c =
     let b = c.args.self.now in
     let h : c.args.rule < length (map (meaning b.arcs.now) b.diagrams.now) = omega (arith, c.len.ensures) in
     let few = rules_few b.width b.places.now b.arcs.now b.diagrams.now b.sound c.args.rule h in

@@ -1,4 +1,4 @@
-use Rattle.std.proofs.Common.{◌/◌, ◌%◌, ◌^◌, eqb, get_or, sym, ap}
+use Rattle.std.proofs.Common.{◌/◌, ◌%◌, ◌^◌, eqb, get_or, ap}
 use lib.Bits.{and_mask}
 use Rattle.rows.specs.Choices.{stands}
 use Rattle.diagrams.specs.NodeSets.{member}

@@ -17,5 +17,5 @@ returns-in-1 c =
     let ds = c.args.self.now.differences.now in
     (place_there ds c.args.rule c.args.place c.if-rule-self.false (omega arith), row_y ds c.args.rule c.args.place c.if-rule-self.false c.in-1.is)
 
-pub returns-in-default : goal.returns-in-default
-returns-in-default c = (place_missing c.args.self.now.differences.now c.args.rule c.args.place c.if-rule-self.false (omega arith), tt)
+pub returns-in_default : goal.returns-in_default
+returns-in_default c = (place_missing c.args.self.now.differences.now c.args.rule c.args.place c.if-rule-self.false (omega arith), tt)

@@ -8,8 +8,8 @@ use Rattle.differences.proofs.partner.ResidueTest.passes_at.Goals as goal
 pub returns : goal.returns
 returns c =
     let t = c.args.self.now in
-    let f : SFits w64 c.rem-euclid.result = record { sfits = c.rem-euclid.type-inv } in
-    let e : c.rem-euclid.result ≡ int_rem_euclid (pos c.args.choice +ℤ t.shift) (pos t.modulus) =
-    c.rem-euclid.ensures.value ∙ ap₂ int_rem_euclid (omega (arith, ints)) (omega (arith, ints))
+    let f : SFits w64 c.rem_euclid.result = record { sfits = c.rem_euclid.type_inv } in
+    let e : c.rem_euclid.result ≡ int_rem_euclid (pos c.args.choice +ℤ t.shift) (pos t.modulus) =
+    c.rem_euclid.ensures.value ∙ ap₂ int_rem_euclid (omega (arith, ints)) (omega (arith, ints))
     in
     subst (λ (z : ℤ). Decides c.has.result (Finds Same z t.left)) e (simp to_z-of_z at c.has.ensures)

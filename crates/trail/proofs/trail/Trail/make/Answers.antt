@@ -3,8 +3,8 @@ use native.Mathlib.Nat.{sub-zero}
 use Rattle.trail.proofs.Making.{admitted_owes}
 use Rattle.trail.proofs.trail.Trail.make.Goals as goal
 
-pub invariant-of-result : goal.invariant-of-result
-invariant-of-result c =
+pub invariant_of-result : goal.invariant_of-result
+invariant_of-result c =
     let owed = admitted_owes c.args.rows.now c.admitted-count.result c.clear.new.self.top c.admitted-count.ensures c.clear.ensures.memory c.clear.ensures.empty in
     (owed.0, (owed.1, (owed.2, (owed.3, tt))))
 

@@ -8,7 +8,7 @@ use Rattle.trail.proofs.trail.Trail.note_all.Goals as goal
 pub loop-choice-init : goal.loop-choice-init
 loop-choice-init c =
     let struck = c.args.self.now.struck.now in
-    let all = ap (λ w. w.rest) c.into-iter-choice-iterator.ensures.into-iter-gives ∙ c.over-choice-items.ensures in
+    let all = ap (λ w. w.rest) c.into_iter-choice-iterator.ensures.into_iter_gives ∙ c.over-choice-items.ensures in
     (refl, subst (λ (rest : ℕ). NotingAll c.args.row c.args.lost rest struck.slots.now struck.top struck.slots.now struck.top) (sym all) (noting_none c.args.row c.args.lost struck.slots.now struck.top c.ranges.lost.fits))
 
 pub note-requires : goal.note-requires

@@ -18,14 +18,14 @@ returns-then-row-self c = record {
   top = refl;
 }
 
-pub returns-in-default : goal.returns-in-default
-returns-in-default c =
+pub returns-in_default : goal.returns-in_default
+returns-in_default c =
     let m = row c.args.self.now.rows.now c.args.row in
     let bit = one_shl c.args.choice 64 c.requires.0 in
-    absurd (wider_made m c.args.choice _ (ap (λ b. first (fits (eqb (bit_or m b) 0) (plain 1) ∷ [])) (sym bit) ∙ c.in-default.ensures.0))
+    absurd (wider_made m c.args.choice _ (ap (λ b. first (fits (eqb (bit_or m b) 0) (plain 1) ∷ [])) (sym bit) ∙ c.in_default.ensures.0))
 
-pub invariant-of-self : goal.invariant-of-self
-invariant-of-self c =
+pub invariant_of-self : goal.invariant_of-self
+invariant_of-self c =
     let self = c.args.self.now in
     let s = self.rows.now in
     let k = c.mask-mask.result in
@@ -34,6 +34,6 @@ invariant-of-self c =
     let spare = subst (λ k'. self.struck.now.top + standing (set s c.args.row k') ≤ length (set s c.args.row k') * choices) (sym wide_is)
     (omega (arith, length-set s c.args.row (bit_or (row s c.args.row) (2 ^ c.args.choice)), standing_wider s c.args.row c.args.choice c.if-row-self.false, c.requires.1)) in
     let long = length-set s c.args.row k in (
-      some_set s c.args.row k c.if-row-self.false self.some (some_member k some c.mask-mask.type-inv),
+      some_set s c.args.row k c.if-row-self.false self.some (some_member k some c.mask-mask.type_inv),
       (omega (arith, long, self.few), (omega (arith, long, self.enough), (spare, tt))),
     )
