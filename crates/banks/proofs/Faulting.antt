@@ -1,7 +1,7 @@
 -- The check of a bank of one kind: what a loop over its rules comes to, whatever the kind.
 use Rattle.std.proofs.Common.{◌≡◌, ℕ, zero, suc, ◌+◌, ◌<◌, true, false, not, List, [], ◌∷◌, length, get_or, take, is_some, Some, None, Option, sym, refl, ap, ◌∙◌, add-zero, zero-add, arith}
 use Rattle.std.specs.Option.{option_map}
-use Rattle.std.specs.List.{AllByRecursion as All}
+use Rattle.std.specs.List.{AllByRecursion}
 use Rattle.std.proofs.lemmas.Bool.{cond-true, cond-false, not-false, true≢false}
 use Rattle.rows.specs.Refusals.{Refusal, plain, fits, first}
 use Rattle.rows.proofs.Refusing.{first_past, first_here, first_none, fits_none}
@@ -11,7 +11,7 @@ use Rattle.banks.specs.Lawful.{may_hold}
 module _ {X : Type 0} (fault : X → Option Refusal) where
   -- the rules have no fault
   abbrev pub Faultless : List X → Type 0
-  Faultless = All (λ x. fault x ≡ None)
+  Faultless = AllByRecursion (λ x. fault x ≡ None)
 
   -- the first fault, after rules that have none
   faults_at : (xs : List X) (k i : ℕ) (d : X) (f : Refusal) → Faultless (take i xs) → i < length xs → fault (get_or xs i d) ≡ Some f

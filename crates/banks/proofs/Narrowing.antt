@@ -1,7 +1,7 @@
 -- Narrowing a mask to the choices that have support: what a loop over the places of a rule, and over the rules of a bank, keeps.
 use Rattle.std.proofs.Common.{◌≡◌, ℕ, ◌+◌, ◌<◌, ◌≤◌, List, length, Decides, sym, ap, ◌∙◌, arith, below_more}
 use lib.Bits.{bit_and}
-use Rattle.std.specs.List.{AllByRecursion as All}
+use Rattle.std.specs.List.{AllByRecursion}
 use Rattle.std.proofs.ByRecursion.{All-get_or, All-from_get_or}
 use Rattle.std.proofs.lemmas.Bool.{and_parts, and_from, both_ways}
 use Rattle.std.proofs.lemmas.List.{get_or_past}
@@ -60,12 +60,12 @@ module _ (s : Sheet) (Rs : List Rule) (r : ℕ) where
       kept_like _ _ (row s r) n (λ v f. below_more (λ j. SupportIn s (rule_at Rs j) r v) i f.0 f.1) (λ v f. ((λ j h. f j (omega arith)), f i (omega arith)))
       (kept_more _ (SupportIn s (rule_at Rs i) r) (row s r) m n k l)
 
-  pub choosing_all : (m : ℕ) → Choosing (length Rs) m → Kept (λ v. All (λ R. SupportIn s R r v) Rs) (row s r) m
+  pub choosing_all : (m : ℕ) → Choosing (length Rs) m → Kept (λ v. AllByRecursion (λ R. SupportIn s R r v) Rs) (row s r) m
   choosing_all m k =
       kept_like _ _ (row s r) m (λ v f. All-from_get_or (λ R. SupportIn s R r v) Rs _ f) (λ v a i h. All-get_or (λ R. SupportIn s R r v) Rs i _ h a) k
 
   -- in a row that is not there
-  pub no_choices : length s ≤ r → Kept (λ v. All (λ R. SupportIn s R r v) Rs) (row s r) 0
+  pub no_choices : length s ≤ r → Kept (λ v. AllByRecursion (λ R. SupportIn s R r v) Rs) (row s r) 0
   no_choices h v =
       let gone = get_or_past s r 0 h in
       ((λ t. absurd (both_ways (stands 0 v) (stands_zero v) t)), (λ q. absurd (both_ways (stands (row s r) v) (ap (λ m. stands m v) gone ∙ stands_zero v) q.0)))

@@ -1,6 +1,6 @@
 -- What the calls of a rule bank answer, read off its width and its list of rules.
 use Rattle.std.specs.Prelude.{◌≡◌, ℕ, ◌<◌, ◌≤◌, Bool, false, List, [], ◌∷◌, length, Decides, Option, Result, nat_le, nat_lt, slice_index, slice_index_or}
-use Rattle.std.specs.List.{AllByRecursion as All}
+use Rattle.std.specs.List.{AllByRecursion}
 use Rattle.rows.specs.Choices.{stands, Kept}
 use Rattle.rows.specs.Refusals.{Refusal, plain, fits, first, Answer}
 use Rattle.banks.specs.Rules.{Sheet, Tuple, Rule, arity, row, named, SupportAt, SupportIn, SupportedBy, Supported, Live, Plan, OfChoices, Meets}
@@ -70,11 +70,11 @@ LiveAnswer w Rs k s =
 
 -- Whether a plan meets every rule of a bank: each of its numbers is a choice, and its choices form a permitted tuple of each rule.
 abbrev pub MeetsAnswer : ℕ → List Rule → Plan → Result Bool CallError → Type 0
-MeetsAnswer w Rs plan = Answer call_says (first (too_few_rows w plan ∷ [])) (Unit {0}) (λ r. Decides r (OfChoices plan × All (Meets plan) Rs))
+MeetsAnswer w Rs plan = Answer call_says (first (too_few_rows w plan ∷ [])) (Unit {0}) (λ r. Decides r (OfChoices plan × AllByRecursion (Meets plan) Rs))
 
 -- The choices of a row that stand and have support in every rule of a bank.
 abbrev pub ChoicesAnswer : ℕ → List Rule → Sheet → ℕ → Result ℕ CallError → Type 0
-ChoicesAnswer w Rs s r = Answer call_says (first (too_few_rows w s ∷ [])) (Unit {0}) (λ m. Kept (λ v. All (λ R. SupportIn s R r v) Rs) (row s r) m)
+ChoicesAnswer w Rs s r = Answer call_says (first (too_few_rows w s ∷ [])) (Unit {0}) (λ m. Kept (λ v. AllByRecursion (λ R. SupportIn s R r v) Rs) (row s r) m)
 
 -- Those of a mask that have support in one rule.
 abbrev pub NarrowedAnswer : ℕ → List Rule → ℕ → Sheet → ℕ → ℕ → Result ℕ CallError → Type 0

@@ -1,6 +1,6 @@
 -- What every rule bank owes: a width, and a list of rules that name rows below it.
 use Rattle.std.specs.Prelude.{◌≡◌, ℕ, Bool, true, ◌&&◌, List, length, nat_le}
-use Rattle.std.specs.List.{AllByRecursion as All}
+use Rattle.std.specs.List.{AllByRecursion}
 use Rattle.banks.specs.Names.{may_name}
 use Rattle.banks.specs.Rules.{Rule}
 
@@ -19,4 +19,4 @@ may_hold w n = nat_le 1 w && nat_le w max_width && nat_le n max_rules
 -- width.
 pub record Lawful (w : ℕ) (Rs : List Rule) : Type 0 where
   pub size : may_hold w (length Rs) ≡ true
-  pub names : All (λ R. may_name w R.names ≡ true) Rs
+  pub names : AllByRecursion (λ R. may_name w R.names ≡ true) Rs

@@ -1,6 +1,6 @@
 -- What rules mean: for any arity, and any number of choices.
 use Rattle.std.specs.Prelude.{◌≡◌, ℕ, ◌<◌, Bool, true, List, map, length, slice_index, slice_index_or}
-use Rattle.std.specs.List.{AllByRecursion as All}
+use Rattle.std.specs.List.{AllByRecursion}
 use Rattle.rows.specs.Choices.{choices, stands}
 
 -- A sheet: the masks of its rows, from row 0 on.
@@ -63,7 +63,7 @@ SupportedBy s R = (r v : ℕ) → stands (row s r) v ≡ true → SupportIn s R 
 -- empty row counts.
 pub record Supported (s : Sheet) (Rs : List Rule) : Type 0 where
   pub rows : NoRowEmpty s
-  pub rules : All (SupportedBy s) Rs
+  pub rules : AllByRecursion (SupportedBy s) Rs
 
 -- A plan: one choice for each row.
 abbrev pub Plan : Type 0

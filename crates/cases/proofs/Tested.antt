@@ -1,6 +1,6 @@
 -- One test of a case that is computed, and that a case which passes it holds.
 use Rattle.std.proofs.Common.{◌≡◌, ℕ, zero, suc, ◌^◌, ◌<◌, ◌≤◌, Bool, true, false, ◌&&◌, eqb, ltb, List, [], ◌∷◌, map, length, get_or, replicate, Decides, sym, refl, ap, ◌∙◌, subst, ap₂, ⊎_elim, arith, pow_pos}
-use Rattle.std.specs.List.{range_with_len, AllByRecursion as All}
+use Rattle.std.specs.List.{range_with_len, AllByRecursion}
 use Rattle.std.proofs.lemmas.List.FromFn.{get_or-map-range_with_len, length-map-range_with_len}
 use Rattle.std.proofs.ByRecursion.{All-get_or}
 use Rattle.std.proofs.lemmas.List.{get_or_past, get_or-replicate, length-replicate}
@@ -76,7 +76,7 @@ abbrev all_pass : List Case → Bool
 all_pass [] = true
 all_pass (c ∷ cs) = passes c && all_pass cs
 
-all_hold : (cs : List Case) → all_pass cs ≡ true → All Holds cs
+all_hold : (cs : List Case) → all_pass cs ≡ true → AllByRecursion Holds cs
 all_hold [] e = tt
 all_hold (c ∷ cs) e = let p = and_parts (passes c) (all_pass cs) e in (passes_holds c p.0, all_hold cs p.1)
 

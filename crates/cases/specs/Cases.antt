@@ -1,6 +1,6 @@
 -- Worked cases, as one table. Each says what a relation that the calls' contracts use holds of.
 use Rattle.std.specs.Prelude.{ℕ, ◌^◌, List, [], ◌∷◌, replicate, ℤ, pos, negsuc, bit_or}
-use Rattle.std.specs.List.{AllByRecursion as All}
+use Rattle.std.specs.List.{AllByRecursion}
 use Rattle.banks.specs.Calls.{Shows}
 use Rattle.banks.specs.Rules.{Sheet, Rule, arity}
 use Rattle.diagrams.specs.Diagrams.{rule}
@@ -63,4 +63,4 @@ table =
 
 -- Every case of the table holds.
 abbrev pub CasesHold : Type 0
-CasesHold = All Holds table
+CasesHold = AllByRecursion Holds table

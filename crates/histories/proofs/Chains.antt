@@ -1,6 +1,6 @@
 -- The calls that are not gone back over, one after another, lead from the start to where the sheet is.
 use Rattle.std.proofs.Common.{◌≡◌, ℕ, Bool, true, false, ◌||◌, ◌⊎◌, List, [], ◌∷◌, length, drop, ap, ◌∙◌, inl, inr, ⊎_elim}
-use Rattle.std.specs.List.{AllByRecursion as All}
+use Rattle.std.specs.List.{AllByRecursion}
 use Rattle.std.proofs.ByRecursion.{All-weaker}
 use Rattle.banks.specs.Rules.{Sheet, Under}
 use Rattle.histories.specs.States.{State}
@@ -36,10 +36,10 @@ Chain start gone (e ∷ earlier) rows strokes =
 
 -- only what `gone` says of the history's calls counts
 pub chain_like : (start : State) (gone gone' : ℕ → Bool) (h : History) (rows : Sheet) (strokes : List ℕ)
-    → All (λ e. gone' e.before.given ≡ gone e.before.given) h → Chain start gone h rows strokes → Chain start gone' h rows strokes
+    → AllByRecursion (λ e. gone' e.before.given ≡ gone e.before.given) h → Chain start gone h rows strokes → Chain start gone' h rows strokes
 chain_like start gone gone' [] rows strokes a c = c
 chain_like start gone gone' (e ∷ earlier) rows strokes a c =
-    let rest : All (λ b. gone_or gone' e b.before.given ≡ gone_or gone e b.before.given) earlier =
+    let rest : AllByRecursion (λ b. gone_or gone' e b.before.given ≡ gone_or gone e b.before.given) earlier =
     All-weaker (λ b. gone' b.before.given ≡ gone b.before.given) _ (λ b q. ap (λ t. t || undoes e.call e.answer b.before.given) q) earlier a.1
     in
     ⊎_elim (λ i. inl (⊎_elim (λ g. inl (a.0 ∙ g)) inr i.0, chain_like start (gone_or gone e) (gone_or gone' e) earlier rows strokes rest i.1))

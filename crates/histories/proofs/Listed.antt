@@ -1,6 +1,6 @@
 -- Rising lists of numbers, and the choices of a mask as such a list.
 use Rattle.std.proofs.Common.{◌≡◌, ℕ, zero, suc, ◌+◌, ◌<◌, Bool, true, ltb, List, [], ◌∷◌, map, filter, refl, arith}
-use Rattle.std.specs.List.{range_with_len, AllByRecursion as All}
+use Rattle.std.specs.List.{range_with_len, AllByRecursion}
 use Rattle.std.proofs.ByRecursion.{All-weaker, all_kept_by}
 use Rattle.std.proofs.lemmas.Bool.{ltb-true, lt-ltb, and_parts, and_from, cond_both}
 use Rattle.rows.specs.Choices.{choices, stands, members}
@@ -8,14 +8,14 @@ use Rattle.trail.proofs.Listing.{all_counting}
 use Rattle.histories.specs.Laws.{rising}
 
 -- the head of a rising list is below the rest
-rising_parts : (x : ℕ) (xs : List ℕ) → rising (x ∷ xs) ≡ true → All (λ y. x < y) xs × (rising xs ≡ true)
+rising_parts : (x : ℕ) (xs : List ℕ) → rising (x ∷ xs) ≡ true → AllByRecursion (λ y. x < y) xs × (rising xs ≡ true)
 rising_parts x [] e = (tt, refl)
 rising_parts x (y ∷ xs) e =
     let p = and_parts (ltb x y) (rising (y ∷ xs)) e in
     let low = ltb-true x y p.0 in
     ((low, All-weaker (λ z. y < z) (λ z. x < z) (λ z h. omega arith) xs (rising_parts y xs p.1).0), p.1)
 
-rising_from : (x : ℕ) (xs : List ℕ) → All (λ y. x < y) xs → rising xs ≡ true → rising (x ∷ xs) ≡ true
+rising_from : (x : ℕ) (xs : List ℕ) → AllByRecursion (λ y. x < y) xs → rising xs ≡ true → rising (x ∷ xs) ≡ true
 rising_from x [] a e = refl
 rising_from x (y ∷ xs) a e = and_from (ltb x y) (rising (y ∷ xs)) (lt-ltb x y a.0) e
 

@@ -1,6 +1,6 @@
 -- Plans after a history: one that meets the rules of each settle that is not gone back over is ended by strikes and holds alone.
 use Rattle.std.proofs.Common.{◌≡◌, ℕ, zero, suc, ◌^◌, ◌<◌, Bool, true, false, ◌&&◌, ◌⊎◌, List, [], ◌∷◌, map, length, get_or, sym, refl, ap, ◌∙◌, subst, inl, inr, ⊎_elim, pow-suc, arith, pow_pos}
-use Rattle.std.specs.List.{AllByRecursion as All}
+use Rattle.std.specs.List.{AllByRecursion}
 use Rattle.std.proofs.ByRecursion.{All-weaker}
 use Rattle.std.proofs.lemmas.List.{length-map, get_or-map, get_or_past}
 use Rattle.std.proofs.lemmas.Bool.{cases_Bool, cases_lt, both_ways, and_parts, and_from, and_cases, eqb-true, eq-eqb, true≢false}
@@ -112,7 +112,7 @@ module _ (plan : Plan) where
         }
 
   -- a settle keeps a plan that meets its rules
-  module _ (Rs : List Rule) (s t : Sheet) (largest : Largest Rs s t) (stood : PlanStands s plan) (meets : All (Meets plan) Rs) where
+  module _ (Rs : List Rule) (s t : Sheet) (largest : Largest Rs s t) (stood : PlanStands s plan) (meets : AllByRecursion (Meets plan) Rs) where
     candidate : Candidate Rs s alone
     candidate = record {
       supported = record {

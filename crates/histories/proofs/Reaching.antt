@@ -1,6 +1,6 @@
 -- What every state that a history reaches has: the chain of calls that led to it, and for each open mark the chain to where it was given.
 use Rattle.std.proofs.Common.{◌≡◌, ℕ, ◌≤◌, Bool, true, false, ◌||◌, ltb, ◌⊎◌, List, [], ◌∷◌, ◌++◌, length, take, drop, sym, refl, ap, ◌∙◌, subst, inl, inr, ⊎_elim, arith}
-use Rattle.std.specs.List.{AllByRecursion as All}
+use Rattle.std.specs.List.{AllByRecursion}
 use Rattle.std.proofs.ByRecursion.{All-weaker, All-push}
 use Rattle.std.proofs.lemmas.List.{drop_all, take_all, take-take, take-append-le, length-append, length-take-le}
 use Rattle.std.proofs.lemmas.Bool.{cases_lt, lt-ltb, le-ltb, or_left, or_right, or_from}
@@ -27,10 +27,10 @@ Marked start h s m = Level start h s.strokes m × Before m (present s)
 -- The chains to the open marks and to the present; the marks are in the order in which they were given, and the calls met no more marks
 -- given than there are now.
 pub record Reached (start : State) (h : History) (s : State) : Type 0 where
-  pub marks : All (Marked start h s) s.opened
+  pub marks : AllByRecursion (Marked start h s) s.opened
   pub order : Ordered s.opened
   pub now : Chain start (ltb s.given) h s.rows s.strokes
-  pub older : All (λ e. e.before.given ≤ s.given) h
+  pub older : AllByRecursion (λ e. e.before.given ≤ s.given) h
 
 -- of two thresholds the lower counts
 lower : (a k g : ℕ) → k ≤ a → (ltb a g || ltb k g) ≡ ltb k g
@@ -58,7 +58,7 @@ module _ (start : State) (h : History) (e : Event) where
       subst (Chain start (ltb m.serial) (e ∷ h) m.rows) (sym q)
       (idle_chain (ltb m.serial) (ltb m.serial) m.rows (take m.height e.before.strokes) same i l)
 
-  older_on : e.before.given ≤ e.after.given → All (λ b. b.before.given ≤ e.before.given) h → All (λ b. b.before.given ≤ e.after.given) (e ∷ h)
+  older_on : e.before.given ≤ e.after.given → AllByRecursion (λ b. b.before.given ≤ e.before.given) h → AllByRecursion (λ b. b.before.given ≤ e.after.given) (e ∷ h)
   older_on more old = (more, All-weaker (λ b. b.before.given ≤ e.before.given) _ (λ b le. omega arith) h old)
 
   -- a mark before the state that a call left: it was before the one that the call met, and the call leaves no wider rows
@@ -94,7 +94,7 @@ module _ (start : State) (h : History) (e : Event) where
             or_false (ltb e.after.given b.before.given) (undoes e.call e.answer b.before.given) (nb b.before.given)
             ∙ le-ltb e.after.given b.before.given (omega arith) ∙ sym (le-ltb e.before.given b.before.given old)
 
-    same_marks : (ms : List Opened) → All (Marked start h e.before) ms → All (Marked start (e ∷ h) e.after) ms
+    same_marks : (ms : List Opened) → AllByRecursion (Marked start h e.before) ms → AllByRecursion (Marked start (e ∷ h) e.after) ms
     same_marks ms = All-weaker (Marked start h e.before) _ one ms
       where
         one : (m : Opened) → Marked start h e.before m → Marked start (e ∷ h) e.after m
@@ -106,7 +106,7 @@ module _ (start : State) (h : History) (e : Event) where
     -- with the same marks
     same_reached : e.after.opened ≡ e.before.opened → Reached start (e ∷ h) e.after
     same_reached opened = record {
-      marks = subst (All _) (sym opened) (same_marks e.before.opened reached.marks);
+      marks = subst (AllByRecursion _) (sym opened) (same_marks e.before.opened reached.marks);
       order = subst Ordered (sym opened) reached.order;
       now = same_now;
       older = older_on more reached.older;
@@ -115,7 +115,7 @@ module _ (start : State) (h : History) (e : Event) where
     -- with fewer
     fewer_reached : (m : Opened) (later : List Opened) → e.before.opened ≡ e.after.opened ++ m ∷ later → Reached start (e ∷ h) e.after
     fewer_reached m later opened = record {
-      marks = same_marks e.after.opened (all_front _ e.after.opened (m ∷ later) (subst (All _) opened reached.marks));
+      marks = same_marks e.after.opened (all_front _ e.after.opened (m ∷ later) (subst (AllByRecursion _) opened reached.marks));
       order = ordered_front e.after.opened (m ∷ later) (subst Ordered opened reached.order);
       now = same_now;
       older = older_on more reached.older;
@@ -125,7 +125,7 @@ module _ (start : State) (h : History) (e : Event) where
     -- a mark is given
     marked_reached : (k : ℕ) → NoBack e.call e.answer → GivesMark k e.before e.after → Reached start (e ∷ h) e.after
     marked_reached k nb gives = record {
-      marks = subst (All _) (sym gives.opened) (All-push _ e.before.opened new marked (level, before));
+      marks = subst (AllByRecursion _) (sym gives.opened) (All-push _ e.before.opened new marked (level, before));
       order = subst Ordered (sym gives.opened) (ordered_push e.before.opened new above reached.order);
       now = same_now reached nb gives.rows gives.strokes more;
       older = older_on more reached.older;
@@ -140,10 +140,10 @@ module _ (start : State) (h : History) (e : Event) where
         more : e.before.given ≤ e.after.given
         more = omega (arith, gives.given)
 
-        marked : All (Marked start (e ∷ h) e.after) e.before.opened
+        marked : AllByRecursion (Marked start (e ∷ h) e.after) e.before.opened
         marked = same_marks reached nb gives.rows gives.strokes more e.before.opened reached.marks
 
-        above : All (λ m. Before m new) e.before.opened
+        above : AllByRecursion (λ m. Before m new) e.before.opened
         above = All-weaker (Marked start h e.before) _ (λ m l. subst (Before m) (sym is_present) l.1) e.before.opened reached.marks
 
         top : take (length e.before.strokes) e.after.strokes ≡ take (length e.before.strokes) e.before.strokes
@@ -165,7 +165,7 @@ module _ (start : State) (h : History) (e : Event) where
     -- choices are struck
     narrowed_reached : NoBack e.call e.answer → Narrows e.before e.after → Reached start (e ∷ h) e.after
     narrowed_reached nb narrow = record {
-      marks = subst (All _) (sym narrow.marks.opened) (All-weaker (Marked start h e.before) _ one e.before.opened reached.marks);
+      marks = subst (AllByRecursion _) (sym narrow.marks.opened) (All-weaker (Marked start h e.before) _ one e.before.opened reached.marks);
       order = subst Ordered (sym narrow.marks.opened) reached.order;
       now = inr (
         record { stays = le-ltb e.after.given e.before.given (omega (arith, narrow.marks.given)); narrow = narrow; rows_are = refl; strokes_are = refl },
@@ -195,7 +195,7 @@ module _ (start : State) (h : History) (e : Event) where
       m = goes.to
 
       at : Marked start h e.before m
-      at = all_middle _ e.after.opened m goes.closes.later (subst (All _) goes.closes.opened reached.marks)
+      at = all_middle _ e.after.opened m goes.closes.later (subst (AllByRecursion _) goes.closes.opened reached.marks)
 
       long : length e.after.strokes ≡ m.height
       long = ap length goes.strokes ∙ length-take-le m.height e.before.strokes at.1.height
@@ -231,7 +231,7 @@ module _ (start : State) (h : History) (e : Event) where
       back_reached : Reached start (e ∷ h) e.after
       back_reached = record {
         marks = All-weaker _ _ back_mark e.after.opened (all_both _ _ e.after.opened
-            (all_front _ e.after.opened (m ∷ goes.closes.later) (subst (All _) goes.closes.opened reached.marks))
+            (all_front _ e.after.opened (m ∷ goes.closes.later) (subst (AllByRecursion _) goes.closes.opened reached.marks))
             (ordered_middle e.after.opened m goes.closes.later (subst Ordered goes.closes.opened reached.order)));
         order = ordered_front e.after.opened (m ∷ goes.closes.later) (subst Ordered goes.closes.opened reached.order);
         now = back_now;
@@ -260,7 +260,7 @@ module _ (start : State) (h : History) (e : Event) where
 -- every state that a history reaches from a fresh one has it
 pub reached : (start : State) (h : History) (end : State) → Fresh start → Leads start h end → Reached start h end
 reached start [] end fresh leads = subst (Reached start []) (sym leads) (record {
-  marks = subst (All _) (sym fresh.opened) tt;
+  marks = subst (AllByRecursion _) (sym fresh.opened) tt;
   order = subst Ordered (sym fresh.opened) tt;
   now = (refl, fresh.strokes);
   older = tt;

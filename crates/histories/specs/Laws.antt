@@ -1,6 +1,6 @@
 -- The law of every history.
 use Rattle.std.specs.Prelude.{◌≡◌, ℕ, ◌+◌, ◌<◌, Bool, true, false, cond, ◌&&◌, List, [], ◌∷◌, ◌++◌, length, drop, Decides, nat_lt, slice_index}
-use Rattle.std.specs.List.{AllByRecursion as All}
+use Rattle.std.specs.List.{AllByRecursion}
 use Rattle.rows.specs.Choices.{stands}
 use Rattle.banks.specs.Names.{apart}
 use Rattle.banks.specs.Rules.{Sheet, Rule, row, Plan, PlanStands, Meets}
@@ -60,7 +60,7 @@ StruckOf plan e = (r : ℕ) × ((r < length plan) × StruckBy e r (slice_index p
 abbrev pub MeetsSettled : Plan → History → Type 0
 MeetsSettled plan h =
     (later : History) (e : Event) → Made h later e → (w n c : ℕ) (Rs : List Rule) → e.call ≡ settle w Rs n → e.answer ≡ settled c → (GoneBackOver later e → ⊥)
-    → All (Meets plan) Rs
+    → AllByRecursion (Meets plan) Rs
 
 -- Plan law: a plan that stood at the start, and meets the rules so, still stands exactly when every strike or hold that struck a choice of it
 -- has been gone back over.

@@ -1,7 +1,7 @@
 -- The calls of a sheet as functions that can be computed, and tests under which they move the sheet as they should.
 use Rattle.std.proofs.Common.{◌≡◌, ℕ, suc, ◌+◌, ◌^◌, ◌<◌, Bool, true, false, cond, not, ◌&&◌, eqb, ltb, leb, List, [], ◌∷◌, ◌++◌, map, length, get_or, take, drop, set, Some, None, filter, Option, sym, refl, ap, ◌∙◌, subst, ap₂, arith}
 use lib.Bits.{bit_xor}
-use Rattle.std.specs.List.{AllByRecursion as All}
+use Rattle.std.specs.List.{AllByRecursion}
 use Rattle.std.proofs.lemmas.List.{get_or-set_same, take-append-drop, drop_more}
 use Rattle.std.proofs.lemmas.Bool.{and_parts, cond-true, cond-false, cond_both, eqb-true, leb-true, ltb-true, lt-ltb}
 use Rattle.rows.specs.Choices.{choices, stands, members, Only, Without}
@@ -131,7 +131,7 @@ same_lists (x ∷ xs) [] e = absurd (let z : ◌≡◌ {A = ℕ} 0 1 = cc in ome
 same_lists (x ∷ xs) (y ∷ ys) e =
     let p = and_parts (eqb x y) (same xs ys) e in ap₂ (λ (a : ℕ) (rest : List ℕ). a ∷ rest) (eqb-true x y p.0) (same_lists xs ys p.1)
 
-all_named : (w : ℕ) (Rs : List Rule) → all_may_name w Rs ≡ true → All (λ R. may_name w R.names ≡ true) Rs
+all_named : (w : ℕ) (Rs : List Rule) → all_may_name w Rs ≡ true → AllByRecursion (λ R. may_name w R.names ≡ true) Rs
 all_named w [] e = tt
 all_named w (R ∷ Rs) e = let p = and_parts (may_name w R.names) (all_may_name w Rs) e in (p.0, all_named w Rs p.1)
 

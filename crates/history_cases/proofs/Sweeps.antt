@@ -1,7 +1,7 @@
 -- The largest supported sheet under another, as a sheet that can be computed: rows are cut to the choices with support, again and again.
 use Rattle.std.proofs.Common.{◌≡◌, ℕ, zero, suc, ◌^◌, ◌<◌, ◌≤◌, Bool, true, ◌&&◌, eqb, ltb, List, [], ◌∷◌, length, set, sym, refl, ap, ◌∙◌, subst, ⊎_elim, arith}
 use lib.Bits.{bit_and, and_le_l}
-use Rattle.std.specs.List.{AllByRecursion as All}
+use Rattle.std.specs.List.{AllByRecursion}
 use Rattle.std.proofs.lemmas.List.{get_or_past, get_or-set_same, get_or-set_other, length-set}
 use Rattle.std.proofs.lemmas.Bool.{and_parts, and_from, eqb-true, ltb-true, cases_lt, cases_eq}
 use Rattle.rows.specs.Choices.{choices, stands}
@@ -94,13 +94,13 @@ cuts_closer : (R : Rule) (n : ℕ) → n ≤ arity R → (s : Sheet) → Small s
 cuts_closer R zero h s low = closer_self low
 cuts_closer R (suc p) h s low = let rest = cuts_closer R p (omega arith) s low in closer_trans rest (cut_closer R p (omega arith) (cuts R p s) rest.low)
 
-sweep_closer : (Rs : List Rule) (s : Sheet) → Small s → Closer (λ c. All (SupportedBy c) Rs) s (sweep Rs s)
+sweep_closer : (Rs : List Rule) (s : Sheet) → Small s → Closer (λ c. AllByRecursion (SupportedBy c) Rs) s (sweep Rs s)
 sweep_closer [] s low = closer_self low
 sweep_closer (R ∷ Rs) s low =
     let here = cuts_closer R (arity R) (omega arith) s low in
     closer_trans (closer_kind (λ c k. k.0) here) (closer_kind (λ c k. k.1) (sweep_closer Rs (cuts R (arity R) s) here.low))
 
-sweeps_closer : (n : ℕ) (Rs : List Rule) (s : Sheet) → Small s → Closer (λ c. All (SupportedBy c) Rs) s (sweeps n Rs s)
+sweeps_closer : (n : ℕ) (Rs : List Rule) (s : Sheet) → Small s → Closer (λ c. AllByRecursion (SupportedBy c) Rs) s (sweeps n Rs s)
 sweeps_closer zero Rs s low = closer_self low
 sweeps_closer (suc n) Rs s low = let once = sweep_closer Rs s low in closer_trans once (sweeps_closer n Rs (sweep Rs s) once.low)
 
@@ -121,7 +121,7 @@ steady_supported s R low e r v on p h at =
     (subst (λ m. stands m v ≡ true) (sym (eqb-true (at_place p (live_tuples s R)) (row s (named R p)) (every_at _ (arity R) p e h)))
     (subst (λ x. stands (row s x) v ≡ true) (sym at) on))
 
-all_supported : (s : Sheet) (Rs : List Rule) → Small s → all_steady s Rs ≡ true → All (SupportedBy s) Rs
+all_supported : (s : Sheet) (Rs : List Rule) → Small s → all_steady s Rs ≡ true → AllByRecursion (SupportedBy s) Rs
 all_supported s [] low e = tt
 all_supported s (R ∷ Rs) low e =
     let p = and_parts (steady s R) (all_steady s Rs) e in (steady_supported s R low p.0, all_supported s Rs low p.1)

@@ -1,6 +1,6 @@
 -- What each case of the table says is computed, and what is computed holds where a test passes.
 use Rattle.std.proofs.Common.{◌≡◌, Bool, true, ◌&&◌, List, [], ◌∷◌, map, refl, subst}
-use Rattle.std.specs.List.{AllByRecursion as All}
+use Rattle.std.specs.List.{AllByRecursion}
 use Rattle.std.proofs.lemmas.Bool.{and_parts}
 use Rattle.rows.specs.Choices.{stands, members}
 use Rattle.history_cases.specs.Runs.{Case, runs, Holds, table, CasesHold}
@@ -21,7 +21,7 @@ abbrev all_fit : List Case → Bool
 all_fit [] = true
 all_fit (c ∷ cs) = fit c && all_fit cs
 
-all_hold : (cs : List Case) → all_fit cs ≡ true → All Holds (map worked_out cs)
+all_hold : (cs : List Case) → all_fit cs ≡ true → AllByRecursion Holds (map worked_out cs)
 all_hold [] e = tt
 all_hold (c ∷ cs) e = let p = and_parts (fit c) (all_fit cs) e in (worked_out_holds c p.0, all_hold cs p.1)
 
@@ -35,4 +35,4 @@ unfolding members stands
 all_fitting = refl
 
 pub cases_hold : CasesHold
-cases_hold = subst (All Holds) as_computed (all_hold table all_fitting)
+cases_hold = subst (AllByRecursion Holds) as_computed (all_hold table all_fitting)

@@ -1,6 +1,6 @@
 -- Worked cases of calls on a sheet, as one table. Each says what the moves that the calls' contracts use hold of.
 use Rattle.std.specs.Prelude.{ℕ, List, [], ◌∷◌, ◌++◌, length, ℤ, pos}
-use Rattle.std.specs.List.{AllByRecursion as All}
+use Rattle.std.specs.List.{AllByRecursion}
 use Rattle.banks.specs.Rules.{Sheet, Rule}
 use Rattle.cases.specs.Cases.{set}
 use Rattle.differences.specs.Differences.{meaning}
@@ -91,4 +91,4 @@ table =
 
 -- Every case of the table holds.
 abbrev pub CasesHold : Type 0
-CasesHold = All Holds table
+CasesHold = AllByRecursion Holds table

@@ -1,6 +1,6 @@
 -- Trying the choices of the next row one after another.
 use Rattle.std.proofs.Common.{◌≡◌, ℕ, ◌+◌, ◌<◌, ◌≤◌, Bool, true, ltb, ◌⊎◌, List, [], ◌∷◌, ◌++◌, length, get_or, take, set, Ok, Err, Result, sym, refl, ap, ◌∙◌, subst, inl, inr, ⊎_elim, arith, below_more}
-use Rattle.std.specs.List.{AllByRecursion as All}
+use Rattle.std.specs.List.{AllByRecursion}
 use Rattle.std.proofs.lemmas.List.{take_more, take_more_set, take-set, take_all, take_at, take-take, length_push, length-append, get_or_push, get_or_past, get_or-take, get_or-set_same, get_or-set_other, length-take-le}
 use Rattle.std.proofs.lemmas.Bool.{cases_eq, cases_lt, both_ways}
 use Rattle.std.proofs.lemmas.Bool.Decides.{Decides-like}
@@ -78,7 +78,7 @@ module _ (s : Sheet) (Rs : List Rule) (n : ℕ) (front : Plan) where
       ⊎_elim (λ r. both_ways (stands 0 by.0) (stands_zero by.0) (ap (λ m. stands m by.0) (sym e) ∙ r)) (λ f. f by.2) (t.tried by.0 by.1)
 
 -- a whole plan goes on exactly where it meets every rule
-pub whole_goes_on : (s : Sheet) (Rs : List Rule) (plan : Plan) (n : ℕ) → n ≡ length plan → All (Meets plan) Rs → GoesOn s Rs (length plan) (take n plan)
+pub whole_goes_on : (s : Sheet) (Rs : List Rule) (plan : Plan) (n : ℕ) → n ≡ length plan → AllByRecursion (Meets plan) Rs → GoesOn s Rs (length plan) (take n plan)
 whole_goes_on s Rs plan n e m = record {
   plan = plan;
   long = refl;
@@ -87,8 +87,8 @@ whole_goes_on s Rs plan n e m = record {
   meets = m;
 }
 
-pub whole_meets : (s : Sheet) (Rs : List Rule) (plan : Plan) (n : ℕ) → n ≡ length plan → GoesOn s Rs (length plan) (take n plan) → All (Meets plan) Rs
-whole_meets s Rs plan n e g = subst (λ p. All (Meets p) Rs) same g.meets
+pub whole_meets : (s : Sheet) (Rs : List Rule) (plan : Plan) (n : ℕ) → n ≡ length plan → GoesOn s Rs (length plan) (take n plan) → AllByRecursion (Meets plan) Rs
+whole_meets s Rs plan n e g = subst (λ p. AllByRecursion (Meets p) Rs) same g.meets
   where
     long' : length (take n plan) ≡ n
     long' = length-take-le n plan (omega arith)

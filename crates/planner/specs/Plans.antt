@@ -1,6 +1,6 @@
 -- Plans that go on from their first choices.
 use Rattle.std.specs.Prelude.{◌≡◌, ℕ, ◌<◌, ◌≤◌, Bool, true, List, [], ◌∷◌, length, take, Decides, Result, slice_index}
-use Rattle.std.specs.List.{AllByRecursion as All}
+use Rattle.std.specs.List.{AllByRecursion}
 use Rattle.rows.specs.Choices.{stands}
 use Rattle.rows.specs.Refusals.{Answer, first}
 use Rattle.banks.specs.Calls.{call_says, too_few_rows}
@@ -13,11 +13,11 @@ pub record GoesOn (s : Sheet) (Rs : List Rule) (n : ℕ) (front : Plan) : Type 0
   pub long : length plan ≡ n
   pub begins : take (length front) plan ≡ front
   pub standing : (r : ℕ) → length front ≤ r → r < n → stands (row s r) (slice_index plan r) ≡ true
-  pub meets : All (Meets plan) Rs
+  pub meets : AllByRecursion (Meets plan) Rs
 
 -- Some plan stands and meets every rule.
 abbrev pub PlanExists : Sheet → List Rule → Type 0
-PlanExists s Rs = (plan : Plan) × PlanStands s plan × All (Meets plan) Rs
+PlanExists s Rs = (plan : Plan) × PlanStands s plan × AllByRecursion (Meets plan) Rs
 
 abbrev pub GoesOnAnswer : ℕ → List Rule → Sheet → ℕ → Plan → Result Bool CallError → Type 0
 GoesOnAnswer w Rs s from plan =

@@ -17,7 +17,7 @@ pub(crate) fn goes_on<B: Bank>(
 ) -> Result<bool, CallError>
     requires fronted { from ≤ length plan.old }
     requires chosen { (r : ℕ) → r < from → slice_index plan.old r < choices }
-    ensures answer { GoesOnAnswer (wide bank.now) (rules bank.now) rows.now from plan.old result }
+    ensures answer { GoesOnAnswer (B.wide bank.now) (B.rules bank.now) rows.now from plan.old result }
     ensures front { take from plan.new ≡ take from plan.old }
 {
     if from == plan.len() {
@@ -45,7 +45,7 @@ pub(crate) fn plan_exists<B: Bank>(
     memory: &mut [u8],
 ) -> Result<bool, CallError>
     requires { length memory.old ≡ length rows.now }
-    ensures { ExistsAnswer (wide bank.now) (rules bank.now) rows.now result }
+    ensures { ExistsAnswer (B.wide bank.now) (B.rules bank.now) rows.now result }
 {
     goes_on(bank, rows, memory, 0)
 }

@@ -18,7 +18,7 @@ use waiting::list::WaitingList;
 
 // Whether a rule names a row.
 fn names<B: Bank>(bank: &B, rule: usize, row: usize) -> bool
-    ensures { result ≡ among row (rule_at (rules bank.now) rule).names }
+    ensures { result ≡ among row (rule_at (B.rules bank.now) rule).names }
 {
     let mut place = 0;
     while let Ok(named) = bank.row_at(rule, place) {
@@ -32,9 +32,9 @@ fn names<B: Bank>(bank: &B, rule: usize, row: usize) -> bool
 
 // Lets every rule but one wait that names a row.
 fn wake<B: Bank, L: WaitingList>(bank: &B, list: &mut L, but: usize, row: usize)
-    requires { length (rules bank.now) ≤ room list.old }
-    ensures room { room list.new ≡ room list.old }
-    ensures woken { Woken (rules bank.now) but row (waits list.old) (waits list.new) }
+    requires { length (B.rules bank.now) ≤ L.room list.old }
+    ensures room { L.room list.new ≡ L.room list.old }
+    ensures woken { Woken (B.rules bank.now) but row (L.waits list.old) (L.waits list.new) }
 {
     for rule in 0..bank.rule_count() {
         if rule != but && names(bank, rule, row) {
@@ -45,9 +45,9 @@ fn wake<B: Bank, L: WaitingList>(bank: &B, list: &mut L, but: usize, row: usize)
 
 // Lets exactly the numbers below a count wait.
 fn fill<L: WaitingList>(list: &mut L, count: usize)
-    requires { count ≤ room list.old }
-    ensures room { room list.new ≡ room list.old }
-    ensures filled { Filled count (waits list.new) }
+    requires { count ≤ L.room list.old }
+    ensures room { L.room list.new ≡ L.room list.old }
+    ensures filled { Filled count (L.waits list.new) }
 {
     list.clear();
     for number in 0..count {
@@ -65,12 +65,12 @@ fn bring<B: Bank, L: WaitingList>(
     row: usize,
     mask: u64,
 )
-    requires capacity { length (rules bank.now) ≤ room list.old }
+    requires capacity { length (B.rules bank.now) ≤ L.room list.old }
     requires inside { row < length trail.old.rows.now }
     requires some { 0 < bit_and (row_of trail.old.rows.now row) mask }
-    ensures room { room list.new ≡ room list.old }
+    ensures room { L.room list.new ≡ L.room list.old }
     ensures memory { length trail.new.struck.now.slots.now ≡ length trail.old.struck.now.slots.now }
-    ensures brought { Brought (rules bank.now) revised row mask trail.old.rows.now trail.new.rows.now (contents trail.old.struck.now.slots.now trail.old.struck.now.top) (contents trail.new.struck.now.slots.now trail.new.struck.now.top) (waits list.old) (waits list.new) }
+    ensures brought { Brought (B.rules bank.now) revised row mask trail.old.rows.now trail.new.rows.now (contents trail.old.struck.now.slots.now trail.old.struck.now.top) (contents trail.new.struck.now.slots.now trail.new.struck.now.top) (L.waits list.old) (L.waits list.new) }
 {
     if trail.mask(row) == mask {
         return;
@@ -82,12 +82,12 @@ fn bring<B: Bank, L: WaitingList>(
 // Revises a rule: brings each row that it names to the choices with support there. Answers whether the rule has a live tuple; if not,
 // nothing is done.
 fn revise<B: Bank, L: WaitingList>(trail: &mut Trail, bank: &B, list: &mut L, rule: usize) -> bool
-    requires listed { rule < length (rules bank.now) }
-    requires capacity { length (rules bank.now) ≤ room list.old }
-    requires width { wide bank.now ≤ length trail.old.rows.now }
-    ensures room { room list.new ≡ room list.old }
+    requires listed { rule < length (B.rules bank.now) }
+    requires capacity { length (B.rules bank.now) ≤ L.room list.old }
+    requires width { B.wide bank.now ≤ length trail.old.rows.now }
+    ensures room { L.room list.new ≡ L.room list.old }
     ensures memory { length trail.new.struck.now.slots.now ≡ length trail.old.struck.now.slots.now }
-    ensures answer { ReviseAnswer (rules bank.now) rule trail.old.rows.now trail.new.rows.now (contents trail.old.struck.now.slots.now trail.old.struck.now.top) (contents trail.new.struck.now.slots.now trail.new.struck.now.top) (waits list.old) (waits list.new) result }
+    ensures answer { ReviseAnswer (B.rules bank.now) rule trail.old.rows.now trail.new.rows.now (contents trail.old.struck.now.slots.now trail.old.struck.now.top) (contents trail.new.struck.now.slots.now trail.new.struck.now.top) (L.waits list.old) (L.waits list.new) result }
 {
     let mut masks = [0u64; MAX_ARITY];
     let _ = trail.support(bank, rule, &mut masks);
@@ -108,12 +108,12 @@ fn revise_waiting<B: Bank, L: WaitingList>(
     bank: &B,
     list: &mut L,
 ) -> Option<usize>
-    requires capacity { length (rules bank.now) ≤ room list.old }
-    requires width { wide bank.now ≤ length trail.old.rows.now }
-    requires filled { Filled (length (rules bank.now)) (waits list.old) }
-    ensures room { room list.new ≡ room list.old }
+    requires capacity { length (B.rules bank.now) ≤ L.room list.old }
+    requires width { B.wide bank.now ≤ length trail.old.rows.now }
+    requires filled { Filled (length (B.rules bank.now)) (L.waits list.old) }
+    ensures room { L.room list.new ≡ L.room list.old }
     ensures memory { length trail.new.struck.now.slots.now ≡ length trail.old.struck.now.slots.now }
-    ensures answer { LoopAnswer (rules bank.now) trail.old.rows.now trail.new.rows.now (contents trail.old.struck.now.slots.now trail.old.struck.now.top) (contents trail.new.struck.now.slots.now trail.new.struck.now.top) (waits list.new) result }
+    ensures answer { LoopAnswer (B.rules bank.now) trail.old.rows.now trail.new.rows.now (contents trail.old.struck.now.slots.now trail.old.struck.now.top) (contents trail.new.struck.now.slots.now trail.new.struck.now.top) (L.waits list.new) result }
 {
     while let Some(rule) = list.take() {
         if !revise(trail, bank, list, rule) {
@@ -125,9 +125,9 @@ fn revise_waiting<B: Bank, L: WaitingList>(
 
 // Gives up: puts back every struck choice from an index of the record on, and lets no number wait.
 fn give_up<L: WaitingList>(trail: &mut Trail, list: &mut L, height: usize)
-    ensures room { room list.new ≡ room list.old }
+    ensures room { L.room list.new ≡ L.room list.old }
     ensures memory { length trail.new.struck.now.slots.now ≡ length trail.old.struck.now.slots.now }
-    ensures empty { Empty (waits list.new) }
+    ensures empty { Empty (L.waits list.new) }
     ensures undone { Undoes height trail.old.rows.now trail.new.rows.now (contents trail.old.struck.now.slots.now trail.old.struck.now.top) (contents trail.new.struck.now.slots.now trail.new.struck.now.top) }
 {
     trail.undo_to(height);
@@ -136,14 +136,14 @@ fn give_up<L: WaitingList>(trail: &mut Trail, list: &mut L, height: usize)
 
 // Settles the rows: revises every rule until each supports them. On a wipe-out, puts back all that was struck.
 fn settle<B: Bank, L: WaitingList>(trail: &mut Trail, bank: &B, list: &mut L) -> Outcome
-    requires capacity { length (rules bank.now) ≤ room list.old }
-    requires width { wide bank.now ≤ length trail.old.rows.now }
-    ensures room { room list.new ≡ room list.old }
+    requires capacity { length (B.rules bank.now) ≤ L.room list.old }
+    requires width { B.wide bank.now ≤ length trail.old.rows.now }
+    ensures room { L.room list.new ≡ L.room list.old }
     ensures memory { length trail.new.struck.now.slots.now ≡ length trail.old.struck.now.slots.now }
-    ensures empty { Empty (waits list.new) }
-    ensures tells { Tells (rules bank.now) result trail.old.rows.now trail.new.rows.now (contents trail.old.struck.now.slots.now trail.old.struck.now.top) (contents trail.new.struck.now.slots.now trail.new.struck.now.top) }
-    ensures alike { Alike (rules bank.now) trail.old.rows.now trail.new.rows.now result }
-    ensures largest { SettlesOn (rules bank.now) trail.old.rows.now trail.new.rows.now result }
+    ensures empty { Empty (L.waits list.new) }
+    ensures tells { Tells (B.rules bank.now) result trail.old.rows.now trail.new.rows.now (contents trail.old.struck.now.slots.now trail.old.struck.now.top) (contents trail.new.struck.now.slots.now trail.new.struck.now.top) }
+    ensures alike { Alike (B.rules bank.now) trail.old.rows.now trail.new.rows.now result }
+    ensures largest { SettlesOn (B.rules bank.now) trail.old.rows.now trail.new.rows.now result }
 {
     let height = trail.height();
     let before = trail.standing();
@@ -165,10 +165,10 @@ pub fn propagate<B: Bank, L: WaitingList>(
     bank: &B,
     list: &mut L,
 ) -> Result<Outcome, SettleError>
-    ensures room { room list.new ≡ room list.old }
-    ensures answer { SettleAnswer (wide bank.now) (rules bank.now) (room list.old) trail.old.rows.now trail.old.struck.now.slots.now trail.old.struck.now.top (waits list.old) trail.new.rows.now trail.new.struck.now.slots.now trail.new.struck.now.top (waits list.new) result }
-    ensures alike { Accepted (Alike (rules bank.now) trail.old.rows.now trail.new.rows.now) result }
-    ensures largest { Accepted (SettlesOn (rules bank.now) trail.old.rows.now trail.new.rows.now) result }
+    ensures room { L.room list.new ≡ L.room list.old }
+    ensures answer { SettleAnswer (B.wide bank.now) (B.rules bank.now) (L.room list.old) trail.old.rows.now trail.old.struck.now.slots.now trail.old.struck.now.top (L.waits list.old) trail.new.rows.now trail.new.struck.now.slots.now trail.new.struck.now.top (L.waits list.new) result }
+    ensures alike { Accepted (Alike (B.rules bank.now) trail.old.rows.now trail.new.rows.now) result }
+    ensures largest { Accepted (SettlesOn (B.rules bank.now) trail.old.rows.now trail.new.rows.now) result }
 {
     if trail.row_count() < bank.width() {
         return Err(SettleError::TooFewRows);

@@ -1,11 +1,11 @@
 -- How the open mark of a serial is found and closed.
 use Rattle.std.specs.Prelude.{◌≡◌, ℕ, true, false, List, [], ◌∷◌, ◌++◌, length, Some, None, Option, ◌≢◌}
-use Rattle.std.specs.List.{AllByRecursion as All}
+use Rattle.std.specs.List.{AllByRecursion}
 use Rattle.sheet.specs.declared.mark.OpenMark.{OpenMark}
 
 -- None of these marks has the serial.
 abbrev pub NoneOf : ℕ → List OpenMark → Type 0
-NoneOf k ms = All (λ m. m.serial ≢ k) ms
+NoneOf k ms = AllByRecursion (λ m. m.serial ≢ k) ms
 
 -- A mark of the serial stands after those before it and before the later ones.
 pub record Splits (k : ℕ) (ms front : List OpenMark) (m : OpenMark) : Type 0 where

@@ -21,11 +21,11 @@ impl<'a, 'b, 'c> Sheet<'a, 'b, 'c> {
         bank: &B,
         list: &mut L,
     ) -> Result<Outcome, SettleError>
-        ensures lawful { Lawfully (settles (wide bank.now) (rules bank.now) (room list.old)) (settled_or result) (state_of self.old) (state_of self.new) }
-        ensures leaves { SettleLeaves result self.old self.new (waits list.old) (waits list.new) }
-        ensures room { room list.new ≡ room list.old }
-        ensures alike { Accepted (Alike (rules bank.now) (state_of self.old).rows (state_of self.new).rows) result }
-        ensures largest { Accepted (SettlesOn (rules bank.now) (state_of self.old).rows (state_of self.new).rows) result }
+        ensures lawful { Lawfully (settles (B.wide bank.now) (B.rules bank.now) (L.room list.old)) (settled_or result) (state_of self.old) (state_of self.new) }
+        ensures leaves { SettleLeaves result self.old self.new (L.waits list.old) (L.waits list.new) }
+        ensures room { L.room list.new ≡ L.room list.old }
+        ensures alike { Accepted (Alike (B.rules bank.now) (state_of self.old).rows (state_of self.new).rows) result }
+        ensures largest { Accepted (SettlesOn (B.rules bank.now) (state_of self.old).rows (state_of self.new).rows) result }
     {
         propagate(self.trail, bank, list)
     }

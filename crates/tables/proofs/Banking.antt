@@ -1,6 +1,6 @@
 -- The tables of a bank.
 use Rattle.std.proofs.Common.{◌≡◌, ℕ, ◌<◌, ◌≤◌, true, false, List, [], length, get_or, is_some, None, arith}
-use Rattle.std.specs.List.{AllByRecursion as All}
+use Rattle.std.specs.List.{AllByRecursion}
 use Rattle.std.proofs.ByRecursion.{All-get_or, All-from_get_or}
 use Rattle.std.proofs.lemmas.List.{length-map}
 use Rattle.banks.specs.Lawful.{max_width}
@@ -32,6 +32,6 @@ table_there w ts pool sound k h =
     }
 
 -- the rows that a table names are among the rows
-pub rows_within : (w : ℕ) (names s : List ℕ) → may_name w names ≡ true → w ≤ length s → w ≤ max_width → All (λ r. (r < length s) × (r < max_width)) names
+pub rows_within : (w : ℕ) (names s : List ℕ) → may_name w names ≡ true → w ≤ length s → w ≤ max_width → AllByRecursion (λ r. (r < length s) × (r < max_width)) names
 rows_within w names s e enough wide =
     All-from_get_or (λ r. (r < length s) × (r < max_width)) names 0 (λ p h. let low = (named_from w names e).within p h in (omega arith, omega arith))

@@ -1,7 +1,7 @@
 -- Bytes of a table, and the choices that match one.
 use Rattle.std.proofs.Common.{◌≡◌, ℕ, ◌^◌, ◌<◌, true, eqb, List, sym, ◌∙◌, ⊎_elim, arith}
 use lib.Bits.{bit_and}
-use Rattle.std.specs.List.{AllByRecursion as All}
+use Rattle.std.specs.List.{AllByRecursion}
 use Rattle.std.proofs.lemmas.Bool.{and_parts, and_from, or_cases, or_right, eqb-true, eq-eqb}
 use Rattle.rows.specs.Choices.{choices, stands, Kept}
 use Rattle.rows.proofs.Masks.{stands_and, stands_bit}
@@ -10,7 +10,7 @@ use Rattle.tables.specs.Tables.{star, takes}
 
 -- a table may have all of the bytes
 abbrev pub Bytes : List ℕ → Type 0
-Bytes = All (λ b. table_byte b ≡ true)
+Bytes = AllByRecursion (λ b. table_byte b ≡ true)
 
 -- a choice alone matches its byte
 pub one_choice : (b m : ℕ) → b < choices → Kept (λ v. takes b v ≡ true) m (bit_and m (2 ^ b))

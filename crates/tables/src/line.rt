@@ -1,6 +1,6 @@
 // Lines of a table on the masks of the rows that it names, a mask for each place.
 ghost use Rattle.std.specs.Prelude.{◌≡◌, ℕ, ◌<◌, ◌≤◌, true, length, Decides, slice_index};
-ghost use Rattle.std.specs.List.{AllByRecursion as All};
+ghost use Rattle.std.specs.List.{AllByRecursion};
 ghost use Rattle.rows.specs.Choices.{choices, Kept};
 ghost use Rattle.tables.specs.Checks.{table_byte};
 ghost use Rattle.tables.specs.Lines.{Fits, Lives, Added};
@@ -31,7 +31,7 @@ fn matching(mask: u64, byte: u8) -> u64
 // Whether, at each of the first places, some standing choice matches the byte of a line. Every byte is tested, which is faster than leaving
 // at the first that fails.
 fn fits_first(places: usize, line: &[u8], masks: &[u64]) -> bool
-    requires { (places ≤ length line.now) × ((places ≤ length masks.now) × (All (λ b. table_byte b ≡ true) line.now)) }
+    requires { (places ≤ length line.now) × ((places ≤ length masks.now) × (AllByRecursion (λ b. table_byte b ≡ true) line.now)) }
     ensures { Decides result ((p : ℕ) → p < places → (v : ℕ) × Fits (slice_index line.now p) (slice_index masks.now p) v) }
 {
     let mut fitting = true;
@@ -43,7 +43,7 @@ fn fits_first(places: usize, line: &[u8], masks: &[u64]) -> bool
 
 // Whether a line lives on masks.
 pub(crate) fn lives(line: &[u8], masks: &[u64]) -> bool
-    requires { (length line.now ≡ length masks.now) × (All (λ b. table_byte b ≡ true) line.now) }
+    requires { (length line.now ≡ length masks.now) × (AllByRecursion (λ b. table_byte b ≡ true) line.now) }
     ensures { Decides result (Lives line.now masks.now) }
 {
     fits_first(masks.len(), line, masks)
@@ -51,7 +51,7 @@ pub(crate) fn lives(line: &[u8], masks: &[u64]) -> bool
 
 // Adds the standing choices that match the bytes of a line to those found.
 pub(crate) fn add(line: &[u8], masks: &[u64], found: &mut [u64])
-    requires { (length line.now ≡ length masks.now) × ((length found.old ≡ length masks.now) × (All (λ b. table_byte b ≡ true) line.now)) }
+    requires { (length line.now ≡ length masks.now) × ((length found.old ≡ length masks.now) × (AllByRecursion (λ b. table_byte b ≡ true) line.now)) }
     ensures { Added line.now masks.now found.old found.new }
 {
     for (place, byte) in line.iter().enumerate() {

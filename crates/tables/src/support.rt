@@ -1,6 +1,6 @@
 // The choices that the lines of a table give, on masks and on rows.
 ghost use Rattle.std.specs.Prelude.{◌≡◌, ◌/◌, ◌<◌, ◌≤◌, true, map, length, take};
-ghost use Rattle.std.specs.List.{AllByRecursion as All};
+ghost use Rattle.std.specs.List.{AllByRecursion};
 ghost use Rattle.banks.specs.Calls.{Shows};
 ghost use Rattle.banks.specs.Lawful.{max_width};
 ghost use Rattle.banks.specs.Rules.{row};
@@ -15,7 +15,7 @@ use banks::limits::MAX_ARITY;
 
 // Finds the choices that some line gives on masks: line by line, until every standing choice is found.
 fn find(bytes: &[u8], masks: &[u64], found: &mut [u64])
-    requires { (0 < length masks.now) × ((All (λ b. table_byte b ≡ true) bytes.now) × (length found.old ≡ length masks.now)) }
+    requires { (0 < length masks.now) × ((AllByRecursion (λ b. table_byte b ≡ true) bytes.now) × (length found.old ≡ length masks.now)) }
     ensures { Found (cut (length masks.now) (length bytes.now / length masks.now) bytes.now) masks.now found.new }
 {
     found.fill(0);
@@ -34,7 +34,7 @@ fn find(bytes: &[u8], masks: &[u64], found: &mut [u64])
 
 // Puts the masks of the rows that are named to the front, in their order.
 fn pick(names: &[usize], rows: &[u64], masks: &mut [u64])
-    requires { (All (λ r. (r < length rows.now) × (r < max_width)) names.now) × (length names.now ≤ length masks.old) }
+    requires { (AllByRecursion (λ r. (r < length rows.now) × (r < max_width)) names.now) × (length names.now ≤ length masks.old) }
     ensures long { length masks.new ≡ length masks.old }
     ensures front { take (length names.now) masks.new ≡ map (row rows.now) names.now }
 {

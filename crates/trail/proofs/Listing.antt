@@ -1,7 +1,7 @@
 -- Lists of numbers: which numbers a list has, and that it has each once; what passes a test, images, and counting up.
 use Rattle.std.proofs.Common.{◌≡◌, ℕ, zero, suc, ◌+◌, ◌<◌, ◌≤◌, Bool, true, false, cond, not, ◌&&◌, ◌||◌, eqb, ◌⊎◌, List, [], ◌∷◌, ◌++◌, map, length, get_or, Decides, filter, sym, refl, ap, ◌∙◌, subst, ⊎_elim, arith}
 use mathlib.Core.Bool.{or_assoc}
-use Rattle.std.specs.List.{range_with_len, AllByRecursion as All}
+use Rattle.std.specs.List.{range_with_len, AllByRecursion}
 use Rattle.std.proofs.lemmas.List.Sums.{length-filter, count_by-le-length}
 use Rattle.std.proofs.lemmas.Bool.{cases_Bool, cases_eq, both_ways, and_parts, and_from, and_left, and_right, cond_both, false≢true, or_cases, or_left, or_right, or_from, eqb-true, eq-eqb, not-true}
 use Rattle.banks.specs.Names.{among, apart}
@@ -113,7 +113,7 @@ apart_map f (x ∷ xs) one a =
         both_ways (among x xs) out (subst (λ y. among y xs ≡ true) (sym (one x m.0 (among_first x xs) (later m.0 m.1) m.2)) m.1)
 
 -- the numbers from a on, n of them
-pub all_counting : (P : ℕ → Type 0) (a n : ℕ) → ((v : ℕ) → a ≤ v → v < a + n → P v) → All P (range_with_len a n)
+pub all_counting : (P : ℕ → Type 0) (a n : ℕ) → ((v : ℕ) → a ≤ v → v < a + n → P v) → AllByRecursion P (range_with_len a n)
 all_counting P a zero f = tt
 all_counting P a (suc n) f = (f a (omega arith) (omega arith), all_counting P (a + 1) n (λ v h k. f v (omega arith) (omega arith)))
 

@@ -1,12 +1,12 @@
 -- The making of a trail: no mask is 0, and the record has room.
-use Rattle.std.proofs.Common.{◌≡◌, ℕ, zero, suc, ◌+◌, ◌-◌, ◌*◌, ◌^◌, ◌<◌, ◌≤◌, Bool, true, false, not, ◌&&◌, ◌||◌, eqb, ltb, leb, List, [], ◌∷◌, length, get_or, take, Some, None, sum_by, Option, sym, refl, ap, ◌∙◌, subst, arith}
+use Rattle.std.proofs.Common.{◌≡◌, ℕ, zero, suc, ◌+◌, ◌-◌, ◌*◌, ◌<◌, ◌≤◌, Bool, true, false, not, ◌||◌, eqb, ltb, leb, List, [], ◌∷◌, length, take, Some, None, sym, refl, ap, ◌∙◌, subst, arith}
 use native.Mathlib.Nat.{sub-zero}
-use Rattle.std.specs.List.{AllByRecursion as All}
-use Rattle.std.proofs.ByRecursion.{All-from_get_or, sum_by_le}
+use Rattle.std.specs.List.{AllByRecursion}
+use Rattle.std.proofs.ByRecursion.{sum_by_le}
 use Rattle.std.proofs.lemmas.List.Sums.{sum_by-cons}
 use Rattle.std.proofs.lemmas.List.{take_all, length-take-le}
 use Rattle.std.proofs.lemmas.Bool.{ne_eqb, eq-eqb, and_parts, leb-true, not-false}
-use Rattle.rows.specs.Refusals.{Refusal, plain, fits, first}
+use Rattle.rows.specs.Refusals.{Refusal, plain, fits}
 use Rattle.rows.proofs.Refusing.{first_none, fits_none, not_lt_from}
 use Rattle.rows.specs.Choices.{choices, members}
 use Rattle.rows.proofs.Masks.{members_none}
@@ -43,7 +43,7 @@ standing_least (m ∷ s) h =
 pub standing_most : (s : Sheet) → standing s ≤ length s * choices
 standing_most s = sum_by_le (λ m. length (members m)) choices s (every s)
   where
-    every : (xs : List ℕ) → All (λ m. length (members m) ≤ choices) xs
+    every : (xs : List ℕ) → AllByRecursion (λ m. length (members m) ≤ choices) xs
     every [] = tt
     every (x ∷ xs) = (members_few x, every xs)
 

@@ -2,7 +2,7 @@
 use Rattle.std.proofs.Common.{◌≡◌, ℕ, ◌+◌, ◌^◌, ◌<◌, ◌≤◌, Bool, true, false, not, ◌&&◌, length, Decides, filter, sym, refl, ap, ◌∙◌, subst, arith}
 use lib.Bits.{bit_xor}
 use lib.Count.{count_trailing_zeros}
-use Rattle.std.specs.List.{range_with_len, AllByRecursion as All}
+use Rattle.std.specs.List.{range_with_len, AllByRecursion}
 use Rattle.std.proofs.lemmas.List.Filters.{length-filter_both}
 use Rattle.std.proofs.ByRecursion.{all_kept_by}
 use Rattle.std.proofs.lemmas.Bool.{not-true}
@@ -44,7 +44,7 @@ some_member m p h =
     subst (λ xs. 0 < length xs) (sym first-is) (omega arith)
 
 -- a mask's choices are those below 64 that stand in it, each once
-pub all_members : (m : ℕ) → All (λ v. v < choices) (members m)
+pub all_members : (m : ℕ) → AllByRecursion (λ v. v < choices) (members m)
 unfolding members
 all_members m = all_kept_by (stands m) (λ v. v < choices) (range_with_len 0 choices) (all_counting (λ v. v < choices) 0 choices (λ v _ h. omega arith))
 
@@ -60,7 +60,7 @@ unfolding members
 apart_members m = apart_kept (stands m) (range_with_len 0 choices) (apart_counting 0 choices)
 
 -- and the lost ones those that stand no more
-pub all_lost : (m k : ℕ) → All (λ v. v < choices) (lost m k)
+pub all_lost : (m k : ℕ) → AllByRecursion (λ v. v < choices) (lost m k)
 all_lost m k = all_kept_by (λ w. not (stands k w)) (λ v. v < choices) (members m) (all_members m)
 
 pub among_lost : (m k v : ℕ) → Decides (among v (lost m k)) ((v < choices) × (stands m v ≡ true) × (stands k v ≡ false))

@@ -1,11 +1,11 @@
 -- The record grows by the strokes that are noted.
-use Rattle.std.proofs.Common.{◌≡◌, ℕ, ◌+◌, ◌^◌, ◌<◌, ◌≤◌, Bool, true, false, leb, List, [], ◌∷◌, ◌++◌, map, length, take, Ok, Err, Result, sym, refl, ap, ◌∙◌, subst, arith}
+use Rattle.std.proofs.Common.{◌≡◌, ℕ, ◌+◌, ◌^◌, ◌<◌, ◌≤◌, true, leb, List, [], ◌∷◌, ◌++◌, map, length, take, Ok, Err, Result, sym, refl, ap, ◌∙◌, subst, arith}
 use Rattle.std.proofs.lemmas.List.{append-nil, append_assoc, length-append, length-take-le, length_push, length-map}
 use Rattle.rows.specs.Choices.{choices, stands, members, Lowest, Without}
-use Rattle.rows.specs.Refusals.{plain, fits, first}
+use Rattle.rows.specs.Refusals.{plain, fits}
 use Rattle.rows.proofs.Masks.{members_lowest, members_none, stands_below, without_stood}
 use Rattle.rows.proofs.Refusing.{first_past, le_fits_not, some_not_none}
-use Rattle.trail.specs.Stacks.{contents, stack_says, PushAnswer}
+use Rattle.trail.specs.Stacks.{stack_says, PushAnswer}
 use Rattle.trail.specs.Strokes.{stroke}
 use Rattle.trail.specs.Trails.{Noted}
 use Rattle.trail.specs.declared.refusal.StackError.{StackError}

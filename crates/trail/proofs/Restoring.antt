@@ -2,7 +2,7 @@
 use Rattle.std.proofs.Common.{◌≡◌, ℕ, ◌/◌, ◌%◌, ◌^◌, ◌<◌, Bool, true, false, ◌||◌, eqb, List, [], ◌∷◌, ◌++◌, map, length, set, refl, ap, ◌∙◌, ⊎_elim, arith}
 use lib.Bits.{bit_or, or_lt}
 use lib.Pow.{pow-lt}
-use Rattle.std.specs.List.{AllByRecursion as All}
+use Rattle.std.specs.List.{AllByRecursion}
 use Rattle.std.proofs.lemmas.List.{length-set, get_or-set_same, set-set, set-get_or}
 use Rattle.std.proofs.lemmas.Bool.{cases_Bool, or_cases, or_left, or_right}
 use Rattle.std.proofs.lemmas.Bool.Decides.{same_from_decides}
@@ -54,12 +54,12 @@ with_all_stands m w (v ∷ vs) =
     turned false false true = refl
     turned false false false = refl
 
-pub with_all_lt : (n m : ℕ) (vs : List ℕ) → m < 2 ^ n → All (λ v. v < n) vs → with_all m vs < 2 ^ n
+pub with_all_lt : (n m : ℕ) (vs : List ℕ) → m < 2 ^ n → AllByRecursion (λ v. v < n) vs → with_all m vs < 2 ^ n
 with_all_lt n m [] h all = h
 with_all_lt n m (v ∷ vs) h all = or_lt n (with_all m vs) (2 ^ v) (with_all_lt n m vs h all.1) (pow-lt all.0)
 
 -- putting back strokes of one row
-pub restored_row : (s : Sheet) (r m : ℕ) (vs : List ℕ) → r < length s → All (λ v. v < choices) vs → restored (set s r m) (map (stroke r) vs) ≡ set s r (with_all m vs)
+pub restored_row : (s : Sheet) (r m : ℕ) (vs : List ℕ) → r < length s → AllByRecursion (λ v. v < choices) vs → restored (set s r m) (map (stroke r) vs) ≡ set s r (with_all m vs)
 restored_row s r m [] h all = refl
 restored_row s r m (v ∷ vs) h all =
     ap (put_back (stroke r v)) (restored_row s r m vs h all.1)

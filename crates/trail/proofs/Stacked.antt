@@ -1,11 +1,11 @@
 -- What a stack holds after a push or a pop.
-use Rattle.std.proofs.Common.{◌≡◌, ℕ, ◌+◌, ◌-◌, ◌<◌, ◌≤◌, eqb, leb, List, [], ◌∷◌, ◌++◌, length, get_or, take, set, Some, None, Ok, Err, Option, sym, refl, ap, ◌∙◌, subst, arith}
+use Rattle.std.proofs.Common.{◌≡◌, ℕ, ◌+◌, ◌-◌, ◌<◌, ◌≤◌, eqb, leb, List, [], length, get_or, take, set, Some, None, Ok, sym, refl, ap, ◌∙◌, arith}
 use native.Mathlib.Nat.{min-le_left}
 use Rattle.std.specs.List.{slice_get}
 use Rattle.std.proofs.lemmas.List.{take_more, take_more_set, length-set, length-take, length-take-le, get_or-take}
 use Rattle.std.proofs.lemmas.Option.{slice_get_past, slice_get_read}
 use Rattle.std.proofs.lemmas.Bool.{ne_eqb, cond-false}
-use Rattle.rows.specs.Refusals.{plain, fits, first}
+use Rattle.rows.specs.Refusals.{plain, fits}
 use Rattle.rows.proofs.Refusing.{first_past, le_fits_not}
 use Rattle.trail.specs.Stacks.{contents, PushAnswer, PopAnswer}
 

@@ -1,5 +1,5 @@
 -- A row is replaced by a part of it, or by a wider one.
-use Rattle.std.proofs.Common.{◌≡◌, ℕ, ◌+◌, ◌*◌, ◌^◌, ◌<◌, ◌≤◌, Bool, true, false, not, ◌&&◌, ◌||◌, ◌⊎◌, List, [], ◌∷◌, ◌++◌, map, length, get_or, take, set, sym, refl, ap, ◌∙◌, subst, inl, inr, ⊎_elim, arith}
+use Rattle.std.proofs.Common.{◌≡◌, ℕ, ◌+◌, ◌*◌, ◌^◌, ◌<◌, ◌≤◌, Bool, true, false, not, ◌&&◌, List, ◌++◌, map, length, take, set, sym, refl, ap, ◌∙◌, subst, ⊎_elim, arith}
 use lib.Bits.{bit_and, bit_xor}
 use Rattle.std.proofs.lemmas.List.{length-set, get_or-set_same, get_or-set_other}
 use Rattle.std.proofs.lemmas.List.Sums.{sum_by-set}
@@ -8,8 +8,8 @@ use Rattle.rows.specs.Choices.{choices, stands, members}
 use Rattle.rows.proofs.Masks.{stands_and, stands_xor, one_of}
 use Rattle.banks.specs.Rules.{Sheet, row}
 use Rattle.trail.specs.Strokes.{stroke, lost, strokes_of, restored, standing, Elsewhere}
-use Rattle.trail.specs.Trails.{SomeStand, Parts, Noted, Stored, Narrows, NarrowAnswer}
-use Rattle.trail.proofs.Members.{members_kept, lost_count, some_member}
+use Rattle.trail.specs.Trails.{SomeStand, Parts, Noted, Stored, Narrows}
+use Rattle.trail.proofs.Members.{members_kept, lost_count}
 use Rattle.trail.proofs.Restoring.{restored_lost}
 
 module _ (s : Sheet) (r k : ℕ) (inside : r < length s) where

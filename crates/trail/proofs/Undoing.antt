@@ -1,15 +1,15 @@
 -- Struck choices that are put back, the latest first.
-use Rattle.std.proofs.Common.{◌≡◌, ℕ, zero, suc, ◌+◌, ◌-◌, ◌*◌, ◌/◌, ◌%◌, ◌^◌, ◌<◌, ◌≤◌, Bool, true, false, cond, not, ◌&&◌, ◌||◌, eqb, ◌⊎◌, List, [], ◌∷◌, ◌++◌, length, take, drop, set, Some, None, Ok, Err, filter, Result, sym, refl, ap, ◌∙◌, subst, inl, inr, ⊎_elim, arith}
+use Rattle.std.proofs.Common.{◌≡◌, ℕ, zero, suc, ◌+◌, ◌-◌, ◌^◌, ◌<◌, ◌≤◌, Bool, true, not, ◌&&◌, ◌||◌, eqb, List, [], ◌∷◌, ◌++◌, length, take, drop, Some, None, Ok, Err, filter, Result, sym, refl, ap, ◌∙◌, subst, ⊎_elim, arith}
 use lib.Bits.{bit_or}
 use Rattle.std.specs.List.{range_with_len}
 use Rattle.std.proofs.lemmas.List.{length-take-le, length_push, same_from_push, take_all, drop_all}
-use Rattle.std.proofs.lemmas.Bool.{cases_Bool, cond-true, cond-false, ne_eqb, and_parts, not-true, both_ways, eqb-true, eq-eqb, or_right}
+use Rattle.std.proofs.lemmas.Bool.{cases_Bool, cond-true, cond-false, ne_eqb, and_parts, not-true, eqb-true, eq-eqb, or_right}
 use Rattle.rows.specs.Choices.{choices, stands, members}
 use Rattle.rows.specs.Refusals.{Refusal, plain, fits, first}
 use Rattle.rows.proofs.Masks.{stands_or, stands_bit, not_zero}
 use Rattle.rows.proofs.Refusing.{first_past, some_not_none}
 use Rattle.banks.specs.Rules.{Sheet, row}
-use Rattle.trail.specs.Stacks.{contents, PopAnswer}
+use Rattle.trail.specs.Stacks.{PopAnswer}
 use Rattle.trail.specs.Strokes.{lost, standing, with_choice, put_back, restored}
 use Rattle.trail.specs.Trails.{Undoes, UndoesOne}
 use Rattle.trail.specs.declared.refusal.StackError.{StackError}

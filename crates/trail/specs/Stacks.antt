@@ -1,5 +1,5 @@
 -- Stacks of entries of any one kind, over lent memory.
-use Rattle.std.specs.Prelude.{◌≡◌, ℕ, List, [], ◌∷◌, ◌++◌, length, take, Option, Result, ◌==◌, nat_le}
+use Rattle.std.specs.Prelude.{◌≡◌, ℕ, List, [], ◌∷◌, ◌++◌, length, take, Result, ◌==◌, nat_le}
 use Rattle.rows.specs.Refusals.{Refusal, plain, fits, first, Answer}
 use Rattle.trail.specs.declared.refusal.StackError.{StackError}
 use Rattle.trail.specs.declared.refusal.StackError.TheVariants.{Full, Empty}

@@ -158,7 +158,7 @@ impl<'a, 'b> Trail<'a, 'b> {
         rule: usize,
         masks: &mut [u64],
     ) -> Result<(), CallError>
-        ensures { SupportAnswer (wide bank.now) (rules bank.now) rule self.now.rows.now masks.old masks.new result }
+        ensures { SupportAnswer (B.wide bank.now) (B.rules bank.now) rule self.now.rows.now masks.old masks.new result }
     {
         bank.support(rule, self.rows, masks)
     }

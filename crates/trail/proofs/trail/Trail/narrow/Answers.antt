@@ -1,7 +1,6 @@
-use Rattle.std.proofs.Common.{◌≡◌, ◌^◌, ◌<◌, length, get_or, sym, refl, ap, ◌∙◌, subst, rules}
+use Rattle.std.proofs.Common.{◌^◌, ◌<◌, length, sym, ◌∙◌, subst, rules}
 use lib.Bits.{bit_and, bit_xor}
-use Rattle.rows.specs.Choices.{choices}
-use Rattle.rows.specs.Refusals.{plain, fits}
+use Rattle.rows.specs.Refusals.{plain}
 use Rattle.rows.proofs.Refusing.{first_past, le_fits_not}
 use Rattle.banks.specs.Rules.{row}
 use Rattle.trail.specs.Trails.{Parts, Stored}

@@ -8,7 +8,7 @@ invariant_of-self c =
     let self = c.args.self.now in
     let free = room_left self.rows.now (length self.struck.now.slots.now) self.struck.now.top self.some self.enough c.requires in
     let noted = noted_one self.struck.now.slots.now c.push.new.self.slots.now self.struck.now.top c.push.new.self.top c.args.stroke c.push.result free c.push.new.self.within c.push.ensures in
-    (self.some, (self.few, (omega (arith, noted.long, self.enough), (omega (arith, noted.more, c.requires), tt))))
+    record { some = self.some; few = self.few; enough = omega (arith, noted.long, self.enough); spare = omega (arith, noted.more, c.requires) }
 
 pub returns : goal.returns
 returns c =

@@ -1,4 +1,4 @@
-use Rattle.std.proofs.Common.{◌≡◌, ℕ, ◌+◌, ◌*◌, ◌≤◌, length, sym, refl, ap, ◌∙◌, subst}
+use Rattle.std.proofs.Common.{ℕ, ◌+◌, ◌*◌, ◌≤◌, length, sym, refl, ap, ◌∙◌, subst}
 use Rattle.rows.specs.Choices.{choices}
 use Rattle.banks.specs.Rules.{Sheet}
 use Rattle.trail.specs.Strokes.{standing}

@@ -1,11 +1,11 @@
-use Rattle.std.proofs.Common.{◌≡◌, ◌+◌, ◌*◌, ◌^◌, ◌<◌, ◌≤◌, eqb, [], ◌∷◌, length, set, sym, refl, ap, ◌∙◌, subst, arith}
+use Rattle.std.proofs.Common.{◌+◌, ◌*◌, ◌^◌, ◌<◌, ◌≤◌, eqb, [], ◌∷◌, length, set, sym, refl, ap, ◌∙◌, subst, arith}
 use lib.Bits.{bit_or}
 use Rattle.std.proofs.lemmas.Nat.{one_shl}
 use Rattle.std.proofs.lemmas.List.{set_past, length-set}
 use Rattle.rows.specs.Choices.{choices}
 use Rattle.rows.specs.Refusals.{plain, fits, first}
 use Rattle.banks.specs.Rules.{row}
-use Rattle.trail.specs.Strokes.{standing, with_choice}
+use Rattle.trail.specs.Strokes.{standing}
 use Rattle.trail.proofs.Members.{some_member}
 use Rattle.trail.proofs.Storing.{some_set}
 use Rattle.trail.proofs.Undoing.{wider_made, standing_wider}
@@ -33,7 +33,10 @@ invariant_of-self c =
     let wide_is = c.mask-mask.ensures ∙ c.in-Ok.ensures.1 ∙ ap (bit_or (row s c.args.row)) (one_shl c.args.choice 64 c.requires.0) in
     let spare = subst (λ k'. self.struck.now.top + standing (set s c.args.row k') ≤ length (set s c.args.row k') * choices) (sym wide_is)
     (omega (arith, length-set s c.args.row (bit_or (row s c.args.row) (2 ^ c.args.choice)), standing_wider s c.args.row c.args.choice c.if-row-self.false, c.requires.1)) in
-    let long = length-set s c.args.row k in (
-      some_set s c.args.row k c.if-row-self.false self.some (some_member k some c.mask-mask.type_inv),
-      (omega (arith, long, self.few), (omega (arith, long, self.enough), (spare, tt))),
-    )
+    let long = length-set s c.args.row k in
+    record {
+      some = some_set s c.args.row k c.if-row-self.false self.some (some_member k some c.mask-mask.type_inv);
+      few = omega (arith, long, self.few);
+      enough = omega (arith, long, self.enough);
+      spare = spare;
+    }

@@ -1,6 +1,5 @@
-use Rattle.std.proofs.Common.{◌≡◌, ◌<◌, length, set, sym, refl, ap, ◌∙◌, subst, arith}
+use Rattle.std.proofs.Common.{◌<◌, set, sym, ap, ◌∙◌, subst, arith}
 use Rattle.std.proofs.lemmas.List.{length-set}
-use Rattle.rows.specs.Choices.{members}
 use Rattle.banks.specs.Rules.{row}
 use Rattle.trail.specs.Trails.{Parts}
 use Rattle.trail.proofs.Members.{some_member}
@@ -14,10 +13,13 @@ invariant_of-self c =
     let k = c.mask-mask.result in
     let parts : Parts (row s c.args.row) k c.args.lost = subst (λ m. Parts (row s c.args.row) m c.args.lost) (sym c.mask-mask.ensures) c.requires.1 in
     let some : 0 < k = omega (arith, c.mask-mask.ensures, c.args.narrowed.some) in
-    let long = length-set s c.args.row k in (
-      some_set s c.args.row k c.requires.0 self.some (some_member k some c.mask-mask.type_inv),
-      (omega (arith, long, self.few), (omega (arith, long, self.enough), (spare_set s c.args.row k c.args.lost self.struck.now.top c.requires.0 parts self.spare, tt))),
-    )
+    let long = length-set s c.args.row k in
+    record {
+      some = some_set s c.args.row k c.requires.0 self.some (some_member k some c.mask-mask.type_inv);
+      few = omega (arith, long, self.few);
+      enough = omega (arith, long, self.enough);
+      spare = spare_set s c.args.row k c.args.lost self.struck.now.top c.requires.0 parts self.spare;
+    }
 
 pub note_all-requires : goal.note_all-requires
 note_all-requires c =

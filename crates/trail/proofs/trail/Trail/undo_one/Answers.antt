@@ -1,5 +1,4 @@
-use Rattle.std.proofs.Common.{◌≡◌, Ok, sym, refl, ap, ◌∙◌, subst, mod-lt, arith, lit<}
-use Rattle.trail.specs.Stacks.{PopAnswer}
+use Rattle.std.proofs.Common.{mod-lt, arith, lit<}
 use Rattle.trail.proofs.Undoing.{popped_top, popped_one, undone_one}
 use Rattle.trail.proofs.trail.Trail.undo_one.Goals as goal
 
@@ -9,7 +8,7 @@ invariant_of-self c =
     let struck = self.struck.now in
     let struck' = c.pop.new.self in
     let left = popped_top struck.slots.now struck'.slots.now struck.top struck'.top c.pop.result struck.within struck'.within c.pop.ensures in
-    (self.some, (self.few, (omega (arith, left.0, self.enough), (omega (arith, left.1, self.spare), tt))))
+    record { some = self.some; few = self.few; enough = omega (arith, left.0, self.enough); spare = omega (arith, left.1, self.spare) }
 
 pub put_back-requires : goal.put_back-requires
 put_back-requires c =

@@ -1,7 +1,6 @@
-use Rattle.std.proofs.Common.{◌≡◌, ◌+◌, ◌<◌, ◌≤◌, [], ◌∷◌, ◌++◌, length, take, sym, refl, ap, ◌∙◌, arith}
+use Rattle.std.proofs.Common.{◌<◌, take, refl, ◌∙◌, arith}
 use Rattle.std.proofs.lemmas.List.{length-take-le}
-use Rattle.trail.specs.Stacks.{contents}
-use Rattle.trail.proofs.Undoing.{Undoing, undoing_none, undoing_more, undoing_all}
+use Rattle.trail.proofs.Undoing.{undoing_none, undoing_more, undoing_all}
 use Rattle.trail.proofs.trail.Trail.undo_to.Goals as goal
 
 pub loop-self-init : goal.loop-self-init
