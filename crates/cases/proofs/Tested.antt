@@ -1,14 +1,13 @@
 -- One test of a case that is computed, and that a case which passes it holds.
-use Rattle.std.proofs.Common.{◌≡◌, ℕ, zero, suc, ◌^◌, ◌<◌, ◌≤◌, Bool, true, false, ◌&&◌, eqb, ltb, List, [], ◌∷◌, map, length, get_or, replicate, Decides, sym, refl, ap, ◌∙◌, subst, ap₂, ⊎_elim, arith, pow_pos}
+use Rattle.std.proofs.Common.{◌≡◌, ℕ, zero, suc, ◌^◌, ◌<◌, Bool, true, false, ◌&&◌, eqb, ltb, List, [], ◌∷◌, map, length, replicate, Decides, sym, refl, ◌∙◌, subst, ap₂, arith, pow_pos}
 use Rattle.std.specs.List.{range_with_len, AllByRecursion}
 use Rattle.std.proofs.lemmas.List.FromFn.{get_or-map-range_with_len, length-map-range_with_len}
-use Rattle.std.proofs.ByRecursion.{All-get_or}
-use Rattle.std.proofs.lemmas.List.{get_or_past, get_or-replicate, length-replicate}
-use Rattle.std.proofs.lemmas.Bool.{and_parts, eqb-true, ltb-true, cases_lt}
+use Rattle.std.proofs.lemmas.List.{get_or_past, length-replicate}
+use Rattle.std.proofs.lemmas.Bool.{and_parts, eqb-true, ltb-true}
 use Rattle.std.proofs.lemmas.Bool.Decides.{Decides-like}
 use Rattle.rows.specs.Choices.{choices, stands, members}
 use Rattle.banks.specs.Calls.{Shows}
-use Rattle.banks.specs.Rules.{Sheet, Rule, row, arity, SupportAt}
+use Rattle.banks.specs.Rules.{Sheet, Rule, arity, SupportAt}
 use Rattle.diagrams.specs.Diagrams.{path}
 use Rattle.cases.specs.Cases.{Case, supports, Holds, table, CasesHold}
 use Rattle.cases.proofs.Tuples.{Small, live_tuples, live_in, in_live, at_place, at_place_decides}

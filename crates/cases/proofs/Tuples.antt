@@ -1,11 +1,11 @@
 -- All live tuples of a rule on a sheet, as a list that can be computed.
-use Rattle.std.proofs.Common.{◌≡◌, ℕ, zero, suc, ◌^◌, ◌<◌, Bool, true, eqb, ◌⊎◌, List, [], ◌∷◌, map, length, get_or, Decides, filter, sym, refl, ap, ◌∙◌, subst, inl, inr, ⊎_elim, arith}
+use Rattle.std.proofs.Common.{◌≡◌, ℕ, zero, suc, ◌^◌, ◌<◌, true, List, [], ◌∷◌, map, length, get_or, Decides, filter, sym, refl, ap, ◌∙◌, subst, inl, inr, ⊎_elim, arith}
 use lib.Bits.{bit_or}
 use Rattle.std.specs.List.{flat_map}
 use Rattle.std.proofs.lemmas.Bool.{or_cases, or_left, or_right, eqb-true, eq-eqb, both_ways}
 use Rattle.rows.specs.Choices.{choices, stands, members}
 use Rattle.rows.proofs.Masks.{stands_zero, stands_or, stands_bit}
-use Rattle.banks.specs.Rules.{Sheet, Tuple, Rule, row, arity, named, Live}
+use Rattle.banks.specs.Rules.{Sheet, Tuple, Rule, row, Live}
 use Rattle.cases.proofs.Members.{In, in_map, map_in, in_joined, joined_in, in_kept, kept_in, in_members, members_in}
 
 -- the tuples with a choice of each list, in order
