@@ -31,7 +31,7 @@ fn show_check(rt: &HostRuntime, answer: Result<(), ListError>) -> io::Result<()>
 
 // Puts a number, and prints why it is refused, if it is.
 fn show_put<L: WaitingList>(rt: &HostRuntime, list: &mut L, number: usize) -> io::Result<()>
-    ensures { room list.new ≡ room list.old }
+    ensures { L.room list.new ≡ L.room list.old }
 {
     match list.put(number) {
         Ok(()) => Ok(()),
@@ -44,7 +44,7 @@ fn show_put<L: WaitingList>(rt: &HostRuntime, list: &mut L, number: usize) -> io
 
 // Takes a number, and prints it.
 fn show_take<L: WaitingList>(rt: &HostRuntime, list: &mut L) -> io::Result<()>
-    ensures { room list.new ≡ room list.old }
+    ensures { L.room list.new ≡ L.room list.old }
 {
     match list.take() {
         Some(number) => print!(rt; " {number}"),
@@ -54,7 +54,7 @@ fn show_take<L: WaitingList>(rt: &HostRuntime, list: &mut L) -> io::Result<()>
 
 // Takes all numbers that wait, and answers how many they were.
 fn drain<L: WaitingList>(list: &mut L) -> usize
-    ensures { (room list.new ≡ room list.old) × ((Empty (waits list.new)) × (result ≡ how_many (waits list.old) (room list.old))) }
+    ensures { (L.room list.new ≡ L.room list.old) × ((Empty (L.waits list.new)) × (result ≡ how_many (L.waits list.old) (L.room list.old))) }
 {
     let mut count = 0;
     while let Some(_number) = list.take() {
@@ -73,7 +73,7 @@ fn run<L: WaitingList>(
     period: u32,
 ) -> io::Result<()>
     requires { (0 < span) × (0 < period) }
-    ensures { room list.new ≡ room list.old }
+    ensures { L.room list.new ≡ L.room list.old }
 {
     let capacity = list.capacity();
     print!(rt; "{capacity}:")?;
