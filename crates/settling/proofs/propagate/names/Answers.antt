@@ -14,8 +14,8 @@ returns-then-named-row g c =
     let names = (rule_at Rs c.args.rule).names in
     sym (subst (λ r. among r names ≡ true) (sym answer.1 ∙ c.if-named-row.true) (among_getD names c.loop-named.place (placed Rs c.args.rule c.loop-named.place answer.0).1))
 
-pub overflow-add-place : goal.overflow-add-place
-overflow-add-place g c =
+pub overflow_add-place : goal.overflow_add-place
+overflow_add-place g c =
     let bank = c.args.bank.now in
     let Rs = g.B.Bank.rules bank in
     record { fits = omega (arith, arity_few (g.B.Bank.wide bank) Rs (g.B.Bank.lawful bank) c.args.rule, (placed Rs c.args.rule c.loop-named.place c.in-Ok.ensures.0).1) }
@@ -23,5 +23,5 @@ overflow-add-place g c =
 pub returns : goal.returns
 returns g c =
     let Rs = g.B.Bank.rules c.args.bank.now in
-    let past = not_placed Rs c.args.rule c.loop-named.place _ c.in-default.ensures.0 in
+    let past = not_placed Rs c.args.rule c.loop-named.place _ c.in_default.ensures.0 in
     sym (not_among c.args.row (rule_at Rs c.args.rule).names (λ p h. c.loop-named.invariant.1 p (omega arith)))

@@ -64,5 +64,5 @@ returns g c =
     record {
       room = c.loop-row.invariant.0;
       memory = c.loop-row.invariant.1;
-      answer = bringing_all Rs k _ _ c.loop-row.place _ _ _ _ _ (not_placed Rs k c.loop-row.place _ c.in-default.ensures.0) c.loop-row.invariant.2;
+      answer = bringing_all Rs k _ _ c.loop-row.place _ _ _ _ _ (not_placed Rs k c.loop-row.place _ c.in_default.ensures.0) c.loop-row.invariant.2;
     }

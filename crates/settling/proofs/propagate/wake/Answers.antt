@@ -8,7 +8,7 @@ returns g c =
     let Rs = g.B.Bank.rules c.args.bank.now in
     let before = g.L.WaitingList.waits c.args.list.now in
     let after = g.L.WaitingList.waits c.loop-rule.list in
-    let whole : c.loop-rule.rule ≡ length Rs = omega (arith, c.rule-count-rule-end.ensures) in
+    let whole : c.loop-rule.rule ≡ length Rs = omega (arith, c.rule_count-rule-end.ensures) in
     record {
       room = c.loop-rule.invariant.0;
       woken = waking_woken Rs c.args.but c.args.row before after
