@@ -1,5 +1,5 @@
 -- How each call moves a sheet from one state to another, and what it answers.
-use Rattle.std.specs.Prelude.{◌≡◌, ℕ, suc, Bool, true, false, not, ◌&&◌, List, [], ◌∷◌, ◌++◌, map, length, take, Some, None, filter, Option, ◌==◌, nat_le, nat_lt}
+use Rattle.std.specs.Prelude.{◌≡◌, ℕ, suc, not, ◌&&◌, List, [], ◌∷◌, ◌++◌, map, length, take, Some, None, filter, Option, ◌==◌, nat_le, nat_lt}
 use Rattle.rows.specs.Choices.{choices, stands, members, Only, Without}
 use Rattle.rows.specs.Refusals.{Refusal, plain, fits, first}
 use Rattle.banks.specs.Rules.{Sheet, Rule, row}

@@ -1,12 +1,12 @@
 -- The search for an open mark, from the latest down, and the closing of it.
-use Rattle.std.proofs.Common.{◌≡◌, ℕ, zero, suc, ◌+◌, ◌<◌, ◌≤◌, min, Bool, true, false, ◌||◌, eqb, List, [], ◌∷◌, ◌++◌, map, length, take, drop, Some, None, Option, sym, refl, ap, ◌∙◌, subst, arith, take-take}
+use Rattle.std.proofs.Common.{◌≡◌, ℕ, zero, suc, ◌<◌, ◌≤◌, min, true, false, ◌||◌, eqb, List, [], ◌∷◌, ◌++◌, map, length, take, drop, Some, None, sym, refl, ap, ◌∙◌, subst, arith, take-take}
 use native.Mathlib.Nat.{min-eq_left}
-use Rattle.std.specs.List.{AllByRecursion, slice_get}
+use Rattle.std.specs.List.{slice_get}
 use Rattle.std.proofs.lemmas.List.{drop_all, length-take-le, length-append}
 use Rattle.std.proofs.lemmas.Bool.{ne_eqb, eq-eqb, or_right}
 use Rattle.banks.specs.Rules.{Sheet}
-use Rattle.histories.specs.States.{Opened, is_open}
-use Rattle.sheet.specs.Closing.{NoneOf, Splits, Found, Closed}
+use Rattle.histories.specs.States.{is_open}
+use Rattle.sheet.specs.Closing.{NoneOf, Splits, Found}
 use Rattle.sheet.specs.Sheets.{opened_as}
 use Rattle.sheet.specs.declared.mark.OpenMark.{OpenMark}
 

@@ -1,13 +1,11 @@
 -- The heights of the open marks, and the rows that they store.
-use Rattle.std.proofs.Common.{◌≡◌, ℕ, ◌<◌, ◌≤◌, Bool, true, false, ◌&&◌, leb, List, [], ◌∷◌, ◌++◌, map, length, take, drop, sym, refl, ap, ◌∙◌, subst, arith}
-use Rattle.std.specs.List.{AllByRecursion}
+use Rattle.std.proofs.Common.{◌≡◌, ℕ, ◌≤◌, true, leb, List, [], ◌∷◌, ◌++◌, map, length, take, drop, sym, refl, ap, ◌∙◌, subst, arith}
 use Rattle.std.proofs.lemmas.List.{length-take-le, take-append-drop}
 use Rattle.std.proofs.lemmas.Bool.{and_parts, and_from, leb-true, le-leb}
 use Rattle.banks.specs.Rules.{Sheet}
 use Rattle.trail.specs.Strokes.{restored}
 use Rattle.trail.proofs.Restoring.{restored_append}
 use Rattle.trail.proofs.Undoing.{drop_append}
-use Rattle.histories.specs.States.{Opened}
 use Rattle.sheet.specs.Closing.{Splits}
 use Rattle.sheet.specs.Sheets.{opened_as, heights_rise}
 use Rattle.sheet.specs.declared.mark.OpenMark.{OpenMark}

@@ -1,15 +1,14 @@
 -- Each call moves the state as written out for it.
-use Rattle.std.proofs.Common.{◌≡◌, ℕ, suc, ◌+◌, ◌<◌, ◌≤◌, Bool, true, false, not, ◌&&◌, ◌||◌, eqb, ltb, leb, List, [], ◌∷◌, ◌++◌, map, length, take, drop, Some, None, filter, Option, sym, refl, ap, ◌∙◌, subst, add-one, arith}
-use Rattle.std.specs.List.{range_with_len}
+use Rattle.std.proofs.Common.{◌≡◌, ℕ, ◌+◌, ◌<◌, ◌≤◌, true, not, leb, List, [], ◌∷◌, ◌++◌, map, length, take, drop, Some, None, sym, refl, ap, ◌∙◌, add-one, arith}
 use Rattle.std.proofs.lemmas.List.{map-append, drop_all, length-map, length-take-le}
-use Rattle.rows.specs.Refusals.{Refusal, plain, fits, first}
+use Rattle.rows.specs.Refusals.{plain, fits, first}
 use Rattle.rows.proofs.Refusing.{first_none, not_le_from}
-use Rattle.banks.specs.Rules.{Sheet, row, NoRowEmpty}
+use Rattle.banks.specs.Rules.{Sheet, row}
 use Rattle.trail.specs.Strokes.{restored}
 use Rattle.trail.specs.Trails.{SomeStand}
 use Rattle.trail.proofs.Making.{member_not_zero}
-use Rattle.histories.specs.States.{Opened, State, Fresh, is_open}
-use Rattle.histories.specs.Moves.{Call, strike, hold, mark, back, keep, Outcome, refused, done, gave, why, not_open, SameMarks, Strikes, Holds, GivesMark, Closes, GoesBack, KeepsRows, Accepted, strikes, holds, gives_mark, goes_back, keeps_rows, Moves, refuses, accepts}
+use Rattle.histories.specs.States.{Fresh, is_open}
+use Rattle.histories.specs.Moves.{mark, back, keep, done, gave, why, not_open, gives_mark, goes_back, keeps_rows, Moves, accepts}
 use Rattle.sheet.specs.Closing.{NoneOf, Splits}
 use Rattle.sheet.specs.Sheets.{opened_as, state, heights_rise, new_state}
 use Rattle.sheet.specs.declared.mark.OpenMark.{OpenMark}

@@ -1,23 +1,22 @@
 -- Strike and hold as narrowings of one row.
-use Rattle.std.proofs.Common.{◌≡◌, ℕ, zero, suc, ◌+◌, ◌<◌, ◌≤◌, Bool, true, false, cond, not, ◌&&◌, ◌||◌, eqb, ltb, leb, ◌⊎◌, List, [], ◌∷◌, ◌++◌, map, length, take, Some, None, Ok, Err, filter, Result, sym, refl, ap, ◌∙◌, subst, inl, inr, ⊎_elim, arith}
+use Rattle.std.proofs.Common.{◌≡◌, ℕ, zero, suc, ◌+◌, ◌<◌, ◌≤◌, Bool, true, false, cond, not, ◌&&◌, eqb, ltb, List, [], ◌∷◌, ◌++◌, map, length, take, Some, None, Ok, Err, filter, Result, sym, refl, ap, ◌∙◌, ⊎_elim, arith}
 use lib.Bits.{bit_and}
 use Rattle.std.specs.List.{range_with_len}
 use Rattle.std.proofs.lemmas.List.{length-append, length-take-le}
-use Rattle.std.proofs.lemmas.Bool.{cases_Bool, cases_eq, cond-true, cond-false, eqb-true, eq-eqb, ne_eqb, and_parts, and_right, and_from, both_ways, lt-ltb, ltb-true, not-false}
+use Rattle.std.proofs.lemmas.Bool.{cases_eq, cond-true, cond-false, eqb-true, eq-eqb, ne_eqb, and_parts, and_from, both_ways, lt-ltb, ltb-true, not-false}
 use Rattle.rows.specs.Choices.{choices, stands, members, Only, Without}
-use Rattle.rows.specs.Refusals.{plain, fits, first}
+use Rattle.rows.specs.Refusals.{plain, first}
 use Rattle.rows.proofs.Masks.{and_true, stands_and, not_zero}
 use Rattle.rows.proofs.Refusing.{first_none, first_past, fits_none, le_fits_not, not_le_from, some_not_none}
 use Rattle.banks.specs.Rules.{Sheet, row}
-use Rattle.trail.specs.Strokes.{stroke, lost, strokes_of, restored}
+use Rattle.trail.specs.Strokes.{stroke, lost, strokes_of}
 use Rattle.trail.specs.Trails.{Narrows, NarrowAnswer, no_such_row, trail_says}
 use Rattle.trail.specs.declared.refusal.TrailError.{TrailError}
 use Rattle.trail.proofs.Listing.{kept_alike, kept_twice}
 use Rattle.trail.proofs.Making.{member_not_zero}
 use Rattle.trail.proofs.Members.{lost_count}
 use Rattle.settling.proofs.Ending.{any_stands}
-use Rattle.histories.specs.States.{State}
-use Rattle.histories.specs.Moves.{strike, hold, done, why, not_standing, last_choice, SameMarks, Strikes, Holds, Accepted, strikes, holds, Moves, accepts}
+use Rattle.histories.specs.Moves.{strike, hold, done, why, not_standing, last_choice, SameMarks, strikes, holds, Moves, accepts}
 use Rattle.sheet.specs.Sheets.{opened_as, state, heights_rise}
 use Rattle.sheet.specs.declared.mark.OpenMark.{OpenMark}
 use Rattle.sheet.proofs.Heights.{stored_same}

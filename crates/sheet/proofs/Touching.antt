@@ -1,14 +1,12 @@
 -- The state of a sheet whose memory is touched in part, or not at all.
-use Rattle.std.proofs.Common.{◌≡◌, ℕ, ◌≤◌, List, [], ◌∷◌, ◌++◌, length, take, Some, None, Ok, Err, Result, sym, refl, ap, ◌∙◌, subst, arith}
+use Rattle.std.proofs.Common.{◌≡◌, ℕ, ◌≤◌, List, length, take, Some, Err, Result, sym, refl, ap, ◌∙◌, subst, arith}
 use Rattle.std.proofs.lemmas.List.{length-take-le}
-use Rattle.histories.specs.States.{State}
 use Rattle.histories.specs.Laws.{Lawfully}
-use Rattle.histories.specs.Moves.{Call, Outcome, refused, why, Moves, refuses}
+use Rattle.histories.specs.Moves.{Call, refused, why, refuses}
 use Rattle.histories.proofs.Every.{lawfully}
 use Rattle.sheet.specs.Memory.{state_of, Untouched, RefusedLeaves, NarrowsSheet, OnlyCloses}
 use Rattle.sheet.specs.Sheets.{sheet_says, state, done_or, gave_or}
 use Rattle.sheet.specs.declared.mark.Mark.{Mark}
-use Rattle.sheet.specs.declared.mark.OpenMark.{OpenMark}
 use Rattle.sheet.specs.declared.refusal.SheetError.{SheetError}
 use Rattle.sheet.specs.declared.sheet.Sheet.{Sheet}
 

@@ -1,8 +1,7 @@
 -- The state that a sheet in memory stands for, and what its calls answer.
-use Rattle.std.specs.Prelude.{◌≡◌, ℕ, Bool, true, false, cond, ◌&&◌, List, [], ◌∷◌, map, length, drop, Ok, Err, Result, ◌==◌, nat_le}
+use Rattle.std.specs.Prelude.{ℕ, Bool, cond, ◌&&◌, List, [], ◌∷◌, map, length, drop, Ok, Err, Result, ◌==◌, nat_le}
 use Rattle.rows.specs.Refusals.{Refusal, plain}
 use Rattle.banks.specs.Rules.{Sheet}
-use Rattle.trail.specs.Stacks.{contents}
 use Rattle.trail.specs.Strokes.{restored}
 use Rattle.histories.specs.States.{Opened, State}
 use Rattle.settling.specs.Propagation.{settle_says}

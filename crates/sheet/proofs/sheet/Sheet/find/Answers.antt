@@ -1,4 +1,4 @@
-use Rattle.std.proofs.Common.{◌≡◌, ℕ, suc, ◌-◌, length, take, drop, sym, ap, ◌∙◌, subst, arith}
+use Rattle.std.proofs.Common.{◌≡◌, suc, ◌-◌, take, drop, subst, arith}
 use Rattle.sheet.specs.Closing.{NoneOf}
 use Rattle.sheet.proofs.Closing.{none_yet, none_more, found_here, read_some}
 use Rattle.sheet.proofs.sheet.Sheet.find.Goals as goal
@@ -6,10 +6,10 @@ use Rattle.sheet.proofs.sheet.Sheet.find.Goals as goal
 pub loop-at-init : goal.loop-at-init
 loop-at-init c = (omega (arith, c.len-at.ensures), none_yet c.args.serial c.len-at.result _ c.len-at.ensures)
 
-pub returns-in-default : goal.returns-in-default
-returns-in-default c =
+pub returns-in_default : goal.returns-in_default
+returns-in_default c =
     let ms = take c.args.self.now.marks.now.top c.args.self.now.marks.now.slots.now in
-    absurd (read_some ms (c.loop-at.at - 1) (omega (arith, c.loop-at.invariant.0, c.loop-at-test.true)) c.in-default.ensures)
+    absurd (read_some ms (c.loop-at.at - 1) (omega (arith, c.loop-at.invariant.0, c.loop-at-test.true)) c.in_default.ensures)
 
 pub returns-then-open-serial : goal.returns-then-open-serial
 returns-then-open-serial c =

@@ -1,4 +1,4 @@
-use Rattle.std.proofs.Common.{◌≡◌, take, sym, refl, ap, ◌∙◌, subst}
+use Rattle.std.proofs.Common.{take, sym, subst}
 use Rattle.rows.specs.Refusals.{plain}
 use Rattle.histories.specs.Moves.{keep, done, Moves}
 use Rattle.histories.proofs.Every.{lawfully}
@@ -7,13 +7,13 @@ use Rattle.sheet.proofs.Moving.{not_open_fits, keep_moves}
 use Rattle.sheet.proofs.Touching.{refusing, closes_state, closes_none}
 use Rattle.sheet.proofs.sheet.Sheet.keep.Goals as goal
 
-pub returns-in-default : goal.returns-in-default
-returns-in-default c =
+pub returns-in_default : goal.returns-in_default
+returns-in_default c =
     let x = c.args.self.now in
     let y = c.close.new.self in
-    let left = closes_none x y c.close.ensures.rest c.in-default.ensures.closed.1 in
+    let left = closes_none x y c.close.ensures.rest c.in_default.ensures.closed.1 in
     record {
-      lawful = refusing (keep c.args.mark.serial) (plain 9) x y (not_open_fits (state_of x).rows (state_of x).strokes x.given x.room c.args.mark.serial _ c.in-default.ensures.closed.0) left;
+      lawful = refusing (keep c.args.mark.serial) (plain 9) x y (not_open_fits (state_of x).rows (state_of x).strokes x.given x.room c.args.mark.serial _ c.in_default.ensures.closed.0) left;
       same = left;
     }
 

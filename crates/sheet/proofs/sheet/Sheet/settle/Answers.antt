@@ -6,8 +6,8 @@ use Rattle.sheet.proofs.Heights.{heights_grow}
 use Rattle.sheet.proofs.Settled.{settle_grows, settle_moves, settle_leaves}
 use Rattle.sheet.proofs.sheet.Sheet.settle.Goals as goal
 
-pub invariant-of-self : goal.invariant-of-self
-invariant-of-self g c =
+pub invariant_of-self : goal.invariant_of-self
+invariant_of-self g c =
     let x = c.args.self.now in
     let w = g.B.Bank.wide c.args.bank.now in
     let Rs = g.B.Bank.rules c.args.bank.now in
@@ -17,7 +17,7 @@ invariant-of-self g c =
     let struck = x.trail.now.struck.now in
     let struck' = c.propagate.new.trail.struck.now in
     let grown = settle_grows w Rs capacity x.trail.now.rows.now c.propagate.new.trail.rows.now struck.slots.now struck'.slots.now struck.top struck'.top waits waits' c.propagate.result struck.within struck'.within c.propagate.ensures.answer in
-    (x.within, (heights_grow 0 struck.top struck'.top (take x.marks.now.top x.marks.now.slots.now) grown x.heights, tt))
+    record { within = x.within; heights = heights_grow 0 struck.top struck'.top (take x.marks.now.top x.marks.now.slots.now) grown x.heights }
 
 pub returns : goal.returns
 returns g c =
