@@ -1,10 +1,10 @@
 -- Tests of sheets and of the live tuples on them, and what holds where they pass.
-use Rattle.std.proofs.Common.{◌≡◌, ℕ, zero, suc, ◌^◌, ◌<◌, Bool, true, ◌&&◌, eqb, ltb, List, [], ◌∷◌, length, Decides, refl, subst, pow_pos}
+use Rattle.std.proofs.Common.{◌≡◌, ℕ, zero, suc, ◌^◌, ◌<◌, Bool, true, ◌&&◌, eqb, ltb, [], ◌∷◌, length, Decides, refl, subst, pow_pos}
 use Rattle.std.proofs.lemmas.List.{nil_from_length}
 use Rattle.std.proofs.lemmas.Bool.{and_parts, eqb-true, ltb-true}
 use Rattle.std.proofs.lemmas.Bool.Decides.{Decides-below_and, Decides-like}
 use Rattle.rows.specs.Choices.{choices, stands}
-use Rattle.banks.specs.Rules.{Sheet, Tuple, Rule, row, arity, Live, SupportAt}
+use Rattle.banks.specs.Rules.{Sheet, Tuple, Rule, arity, Live, SupportAt}
 use Rattle.cases.proofs.Members.{In}
 use Rattle.cases.proofs.Tuples.{Small, live_tuples, live_in, in_live, at_place, at_place_decides}
 
