@@ -6,6 +6,6 @@ pub mod mark;
 pub mod marking;
 pub mod reading;
 pub mod refusal;
-pub mod settling;
+pub mod settle;
 pub mod sheet;
 pub mod striking;
