@@ -1,4 +1,4 @@
-use Rattle.std.proofs.Common.{◌≡◌, ◌<◌, ◌∷◌, ◌++◌, string_bytes, decimal, sym, ap, ◌∙◌, arith, rules}
+use Rattle.std.proofs.Common.{◌≡◌, ◌∷◌, ◌++◌, string_bytes, decimal, sym, ap, ◌∙◌, arith, rules}
 use lib.Count.{count_trailing_zeros}
 use Rattle.std.proofs.lemmas.List.{append-nil, append_assoc}
 use Rattle.std.proofs.lemmas.Result.{IfOk-weaker}
@@ -21,7 +21,7 @@ returns c =
     let lowest = lowest_is 64 m (omega arith) (search rules) in
     let low = stands_below 64 m v (search rules) lowest.here in
     let step : members m ≡ v ∷ members after = members_lowest m after v low lowest c.without.ensures in
-    IfOk-weaker c.add-further.result _ _
-    (λ _ e. e ∙ ap (λ t. t ++ further (members after)) c.in-ok-add-number.ensures ∙ append_assoc b (decimal v) (further (members after))
+    IfOk-weaker c.add_further.result _ _
+    (λ _ e. e ∙ ap (λ t. t ++ further (members after)) c.in_ok-add_number.ensures ∙ append_assoc b (decimal v) (further (members after))
     ∙ ap (λ l. b ++ listed l) (sym step))
-    c.add-further.ensures
+    c.add_further.ensures

@@ -1,4 +1,4 @@
-use Rattle.std.proofs.Common.{◌≡◌, ℕ, true, List, [], ◌∷◌, ◌++◌, string_bytes, codes, decimal, sym, ap, ◌∙◌, subst, rules}
+use Rattle.std.proofs.Common.{◌≡◌, true, ◌∷◌, ◌++◌, string_bytes, codes, decimal, sym, ap, ◌∙◌, subst, rules}
 use Rattle.std.proofs.lemmas.List.{append-nil, append_assoc}
 use Rattle.rows.specs.Choices.{stands, members}
 use Rattle.rows.proofs.Masks.{stands_below, without_stood, members_lowest, members_none}
@@ -7,7 +7,7 @@ use Rattle.texts.proofs.add_further.Goals as goal
 
 pub loop-choice-init : goal.loop-choice-init
 loop-choice-init c =
-    let whole = ap (λ w. w.rest) c.into-iter-choice-iterator.ensures.into-iter-gives ∙ c.over-choice-items.ensures in
+    let whole = ap (λ w. w.rest) c.into_iter-choice-iterator.ensures.into_iter_gives ∙ c.over-choice-items.ensures in
     (ap (λ m. string_bytes c.args.text.now ++ further (members m)) whole, (λ w s. subst (λ m. stands m w ≡ true) whole s))
 
 pub loop-choice-preserved : goal.loop-choice-preserved
@@ -19,8 +19,8 @@ loop-choice-preserved c =
     let walked = c.in-Some.ensures.steps in
     let low = stands_below 64 c.args.mask v (search rules) (c.loop-choice.invariant.1 v walked.0.here) in
     let step : members rest ≡ v ∷ members after = members_lowest rest after v low walked.0 walked.1 in
-    let written : string_bytes c.add-number.new.text ≡ (t ++ codes ",") ++ decimal v =
-    c.in-ok-add-number.ensures ∙ ap (λ b. b ++ decimal v) c.in-ok-push-str.ensures.bytes
+    let written : string_bytes c.add_number.new.text ≡ (t ++ codes ",") ++ decimal v =
+    c.in_ok-add_number.ensures ∙ ap (λ b. b ++ decimal v) c.in_ok-push_str.ensures.bytes
     in (
       ap (λ b. b ++ further (members after)) written ∙ append_assoc (t ++ codes ",") (decimal v) (further (members after))
           ∙ append_assoc t (codes ",") (decimal v ++ further (members after)) ∙ ap (λ l. t ++ further l) (sym step) ∙ c.loop-choice.invariant.0,

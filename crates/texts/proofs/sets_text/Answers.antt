@@ -1,4 +1,4 @@
-use Rattle.std.proofs.Common.{◌≡◌, [], ◌∷◌, ◌++◌, get_or, take, string_bytes, codes, sym, ap, ◌∙◌}
+use Rattle.std.proofs.Common.{◌≡◌, [], ◌++◌, get_or, take, string_bytes, codes, sym, ap, ◌∙◌}
 use Rattle.std.proofs.lemmas.List.{append_assoc, flat_map_more, take_more, take_all}
 use Rattle.texts.specs.Texts.{set_text, sets_text}
 use Rattle.texts.proofs.sets_text.Goals as goal
@@ -9,9 +9,9 @@ loop-mask-preserved c =
     let i = c.loop-mask.mask-index in
     let t = string_bytes c.loop-mask.text in
     let m = get_or masks i 0 in
-    let set : c.as-str.result.now ≡ set_text m = c.as-str.ensures.value ∙ c.in-ok-set.ensures in
-    let written : string_bytes c.push-str-in-loop-mask.new.self ≡ (t ++ codes " ") ++ set_text m =
-    c.in-ok-push-str-2.ensures.bytes ∙ ap (λ b. b ++ c.as-str.result.now) c.in-ok-push-str.ensures.bytes
+    let set : c.as_str.result.now ≡ set_text m = c.as_str.ensures.value ∙ c.in_ok-set.ensures in
+    let written : string_bytes c.push_str-in-loop-mask.new.self ≡ (t ++ codes " ") ++ set_text m =
+    c.in_ok-push_str-2.ensures.bytes ∙ ap (λ b. b ++ c.as_str.result.now) c.in_ok-push_str.ensures.bytes
     ∙ ap (λ b. (t ++ codes " ") ++ b) set
     in
     written ∙ append_assoc t (codes " ") (set_text m) ∙ ap (λ b. b ++ (codes " " ++ set_text m)) c.loop-mask.invariant
