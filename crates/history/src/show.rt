@@ -1,6 +1,7 @@
 // How the program prints sheets and what their calls answer.
 ghost use Rattle.std.specs.Prelude.{◌≡◌, IfOk, Ok};
 
+use anyhow::anyhow;
 use rows::mask::CHOICES;
 use rows::refusal::Numbered;
 use settling::outcome::Outcome;
@@ -16,7 +17,7 @@ pub(crate) fn told<T, E: Numbered + Drop>(heap: Global, answer: Result<T, E>) ->
         Ok(value) => Ok(value),
         Err(refusal) => {
             let text = refusal_text(heap, &refusal)?;
-            Err(text.into())
+            Err(anyhow!(text))
         }
     }
 }

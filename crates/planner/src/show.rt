@@ -1,6 +1,7 @@
 // How the program prints what the library answers.
 ghost use Rattle.std.specs.Prelude.{◌≡◌, IfOk, Ok};
 
+use anyhow::anyhow;
 use rows::refusal::Numbered;
 use std::alloc::Global;
 use texts::refusal_text;
@@ -13,7 +14,7 @@ pub(crate) fn told<T, E: Numbered + Drop>(heap: Global, answer: Result<T, E>) ->
         Ok(value) => Ok(value),
         Err(refusal) => {
             let text = refusal_text(heap, &refusal)?;
-            Err(text.into())
+            Err(anyhow!(text))
         }
     }
 }
