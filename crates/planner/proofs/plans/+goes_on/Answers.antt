@@ -1,4 +1,4 @@
-use Rattle.std.proofs.Common.{◌≡◌, ℕ, ◌+◌, ◌<◌, ◌≤◌, [], ◌∷◌, ◌++◌, length, get_or, take, set, sym, refl, ap, ◌∙◌, subst, arith, rules}
+use Rattle.std.proofs.Common.{◌≡◌, ℕ, ◌+◌, ◌<◌, ◌≤◌, [], ◌∷◌, ◌++◌, length, get_or, take, set, sym, refl, ◌∙◌, subst, arith, rules}
 use Rattle.std.proofs.lemmas.List.{length-take-le, length-set}
 use Rattle.std.proofs.lemmas.Bool.{false≢true}
 use Rattle.rows.proofs.Masks.{stands_below}
@@ -6,7 +6,7 @@ use Rattle.rows.specs.Refusals.{plain}
 use Rattle.rows.proofs.Refusing.{first_past, lt_fits_not}
 use Rattle.banks.specs.Rules.{Plan}
 use Rattle.planner.specs.Plans.{GoesOn}
-use Rattle.planner.proofs.Trying.{trying_more, trying_all, goes_on_with, whole_goes_on, whole_meets, no_row, after_meets, next_front, front_stays, next_chosen}
+use Rattle.planner.proofs.Trying.{trying_more, trying_all, goes_on_with, no_row, after_meets, next_front, front_stays, next_chosen}
 use Rattle.planner.proofs.plans.+goes_on.Goals as goal
 
 pub returns-then-from-plan : goal.returns-then-from-plan
@@ -26,12 +26,12 @@ returns-then-from-rows g t c =
       front = refl;
     }
 
-pub goes-on-requires : goal.goes-on-requires
-goes-on-requires g t c κs within =
+pub goes_on-requires : goal.goes_on-requires
+goes_on-requires g t c κs within =
     let plan = c.args.plan.now in
     let inside : c.args.from < length c.loop-choice.plan = omega (arith, c.requires.fronted) in
     let row = length (take c.args.from plan) in
-    let low = stands_below 64 (get_or c.args.rows.now row 0) c.in-Some.choice (c.type-inv.rows row).fits (c.loop-choice.invariant.2.part c.in-Some.choice c.in-Some.ensures.steps.0.here) in
+    let low = stands_below 64 (get_or c.args.rows.now row 0) c.in-Some.choice (c.type_inv.rows row).fits (c.loop-choice.invariant.2.part c.in-Some.choice c.in-Some.ensures.steps.0.here) in
     (search rules, (search rules, (simp length-set (omega arith), next_chosen plan c.loop-choice.plan c.args.from c.in-Some.choice inside c.loop-choice.invariant.1 low c.requires.chosen)))
 
 pub returns-then-branch : goal.returns-then-branch
@@ -46,8 +46,8 @@ returns-then-branch g t c =
     let inside : from < length c.loop-choice.plan = omega (arith, c.requires.fronted) in
     let pushed = next_front plan c.loop-choice.plan from v inside c.loop-choice.invariant.1 in
     let same-long : length (set c.loop-choice.plan from v) ≡ length plan = length-set c.loop-choice.plan from v ∙ c.loop-choice.invariant.0 in
-    let further = c.in-ok-goes-on.ensures in
-    let stays = front_stays plan c.loop-choice.plan from v inside c.loop-choice.invariant.1 c.goes-on.new.plan further.front in
+    let further = c.in_ok-goes_on.ensures in
+    let stays = front_stays plan c.loop-choice.plan from v inside c.loop-choice.invariant.1 c.goes_on.new.plan further.front in
     let enough : g.B.Bank.wide bank ≤ length plan = omega (arith, c.width.ensures) in
     let none = first_past _ [] (lt_fits_not (length plan) (g.B.Bank.wide bank) (plain 24) enough) in
     let found = further.answer.1.0 c.if-branch.true in
@@ -67,8 +67,8 @@ loop-choice-preserved g t c =
     let inside : from < length c.loop-choice.plan = omega (arith, c.requires.fronted) in
     let pushed = next_front plan c.loop-choice.plan from v inside c.loop-choice.invariant.1 in
     let same-long : length (set c.loop-choice.plan from v) ≡ length plan = length-set c.loop-choice.plan from v ∙ c.loop-choice.invariant.0 in
-    let further = c.in-ok-goes-on.ensures in
-    let stays = front_stays plan c.loop-choice.plan from v inside c.loop-choice.invariant.1 c.goes-on.new.plan further.front in
+    let further = c.in_ok-goes_on.ensures in
+    let stays = front_stays plan c.loop-choice.plan from v inside c.loop-choice.invariant.1 c.goes_on.new.plan further.front in
     let fails : GoesOn s Rs (length plan) (front ++ v ∷ []) → ⊥ =
     λ on. false≢true (sym c.if-branch.false ∙ further.answer.1.1 (subst (λ (n : ℕ). GoesOn s Rs n (take (from + 1) (set c.loop-choice.plan from v))) (sym same-long) (subst (λ (f : Plan). GoesOn s Rs (length plan) f) (sym pushed) on)))
     in
