@@ -10,8 +10,8 @@ loop-index-preserved c =
     let strokes = contents c.args.trail.now.struck.now.slots.now c.args.trail.now.struck.now.top in
     let i = c.loop-index.index in
     let there : i < length strokes = omega (arith, c.loop-index-test.true, c.height-index-end.ensures) in
-    let read : c.stroke-at.result ≡ get_or strokes i 0 = c.stroke-at.ensures ∙ ap (λ o. unwrap_or o 0) (slice_get-get_or strokes i 0 there) in
-    c.in-ok-push.ensures.items ∙ ap (λ b. b ++ c.stroke-at.result ∷ []) c.loop-index.invariant
+    let read : c.stroke_at.result ≡ get_or strokes i 0 = c.stroke_at.ensures ∙ ap (λ o. unwrap_or o 0) (slice_get-get_or strokes i 0 there) in
+    c.in_ok-push.ensures.items ∙ ap (λ b. b ++ c.stroke_at.result ∷ []) c.loop-index.invariant
     ∙ ap (λ m. take i strokes ++ m ∷ []) read ∙ sym (take_more strokes i 0 there)
 
 pub returns : goal.returns
