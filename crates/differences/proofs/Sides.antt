@@ -20,10 +20,10 @@ from_x (Congruent m) c x y = refl
 same_turned : (c : ℤ) (x y : ℕ) → same (pos y +ℤ neg_ℤ c) (pos x) ≡ same (pos x +ℤ c) (pos y)
 same_turned c x y = grind (arith, ints)
 
-natAbs_neg : (z : ℤ) → nat_abs (neg_ℤ z) ≡ nat_abs z
-natAbs_neg (pos zero) = refl
-natAbs_neg (pos (suc n)) = refl
-natAbs_neg (negsuc n) = refl
+nat_abs_neg : (z : ℤ) → nat_abs (neg_ℤ z) ≡ nat_abs z
+nat_abs_neg (pos zero) = refl
+nat_abs_neg (pos (suc n)) = refl
+nat_abs_neg (negsuc n) = refl
 
 -- from y, the partner x relates at the sum y - c
 pub from_y : (relation : Relation) (c : ℤ) (x y : ℕ) → partners relation NotAbove (pos y +ℤ neg_ℤ c) x ≡ relates relation c x y
@@ -32,7 +32,7 @@ from_y Unequal c x y = ap not (same_turned c x y)
 from_y AtMost c x y = grind (arith, ints)
 from_y (Congruent m) c x y =
     let turned : (pos y +ℤ neg_ℤ c) -ℤ pos x ≡ neg_ℤ ((pos x +ℤ c) -ℤ pos y) = omega (arith, ints) in
-    ap (λ n. eqb (n % m) 0) (ap nat_abs turned ∙ natAbs_neg ((pos x +ℤ c) -ℤ pos y))
+    ap (λ n. eqb (n % m) 0) (ap nat_abs turned ∙ nat_abs_neg ((pos x +ℤ c) -ℤ pos y))
 
 -- an offset within its bounds can be negated
 pub neg_small : (z : ℤ) → ltb (nat_abs z) choices ≡ true → mag (neg_ℤ z) < 2 ^ 31

@@ -19,7 +19,7 @@ use Rattle.settling.specs.Settling.Chain.{start, ◌then◌}
 use Rattle.settling.proofs.Chaining.{chain_under}
 use Rattle.settling.proofs.Cutting.{cuts_from, chain_cut}
 use Rattle.settling.proofs.Ending.{any_stands}
-use Rattle.settling.proofs.Listing.{among_getD}
+use Rattle.settling.proofs.Listing.{among_get_or}
 use Rattle.settling.proofs.Recording.{each_once_none, each_once_row, each_once_more}
 use Rattle.settling.proofs.Revising.{Revising, revising_none, revising_same, shown_part, revising_narrowed, some_left, revising_all}
 use Rattle.settling.proofs.Standing.{standing_falls, standing_under}
@@ -149,7 +149,7 @@ module _ (Rs : List Rule) (k : ℕ) where
         }
       where
         met : (j i : ℕ) → i < arity (rule_at Rs j) → among at (rule_at Rs j).names ≡ false → named (rule_at Rs j) i ≡ at → ⊥
-        met j i h out e = both_ways (among at (rule_at Rs j).names) out (subst (λ r. among r (rule_at Rs j).names ≡ true) e (among_getD (rule_at Rs j).names i h))
+        met j i h out e = both_ways (among at (rule_at Rs j).names) out (subst (λ r. among r (rule_at Rs j).names ≡ true) e (among_get_or (rule_at Rs j).names i h))
 
 -- what is kept while a rule that has a live tuple is revised place by place
 pub record Bringing (Rs : List Rule) (k : ℕ) (seen : Sheet) (masks : List ℕ) (i : ℕ) (s : Sheet) (a b : List ℕ) (w w' : Numbers) : Type 0 where

@@ -8,7 +8,7 @@ use Rattle.banks.specs.Calls.{Shows}
 use Rattle.banks.specs.Names.{apart}
 use Rattle.banks.specs.Rules.{Sheet, Tuple, Rule, row, arity, named, Live, SupportedBy, Under}
 use Rattle.trail.specs.Trails.{Narrows}
-use Rattle.trail.proofs.Listing.{apart_getD}
+use Rattle.trail.proofs.Listing.{apart_get_or}
 use Rattle.settling.proofs.Chaining.{elsewhere_under}
 use Rattle.settling.proofs.Ending.{live_supports, any_stands}
 use Rattle.settling.proofs.Supporting.{under_self, under_trans, support_stands, support_moved, live_moved}
@@ -49,7 +49,7 @@ module _ (seen : Sheet) (R : Rule) (before masks : List ℕ) (shows : Shows seen
     where
       -- another place names another row
       other : (q : ℕ) → q < arity R → (q ≡ i → ⊥) → row t (named R q) ≡ row s (named R q)
-      other q l ne = n.elsewhere.other (named R q) (λ e. ne (apart_getD R.names q i distinct l h e))
+      other q l ne = n.elsewhere.other (named R q) (λ e. ne (apart_get_or R.names q i distinct l h e))
 
       exact : (v : ℕ) → stands (row t (named R i)) v ≡ stands (get_or masks i 0) v
       exact v =

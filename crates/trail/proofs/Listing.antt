@@ -11,10 +11,10 @@ pub among_first : (x : ℕ) (xs : List ℕ) → among x (x ∷ xs) ≡ true
 among_first x xs = or_left (eqb x x) (among x xs) (eq-eqb x x refl)
 
 -- and the element at each index
-pub among_getD : (xs : List ℕ) (i : ℕ) → i < length xs → among (get_or xs i 0) xs ≡ true
-among_getD [] i h = absurd (omega arith)
-among_getD (x ∷ xs) zero h = among_first x xs
-among_getD (x ∷ xs) (suc i) h = or_right (eqb (get_or xs i 0) x) (among (get_or xs i 0) xs) (among_getD xs i (omega arith))
+pub among_get_or : (xs : List ℕ) (i : ℕ) → i < length xs → among (get_or xs i 0) xs ≡ true
+among_get_or [] i h = absurd (omega arith)
+among_get_or (x ∷ xs) zero h = among_first x xs
+among_get_or (x ∷ xs) (suc i) h = or_right (eqb (get_or xs i 0) x) (among (get_or xs i 0) xs) (among_get_or xs i (omega arith))
 
 pub not_among : (x : ℕ) (xs : List ℕ) → (among x xs ≡ true → ⊥) → among x xs ≡ false
 not_among x xs f = ⊎_elim (λ e. absurd (f e)) (λ e. e) (cases_Bool (among x xs))
@@ -27,14 +27,14 @@ pub apart_from : (x : ℕ) (xs : List ℕ) → among x xs ≡ false → apart xs
 apart_from x xs e a = and_from (not (among x xs)) (apart xs) (ap not e) a
 
 -- equal elements of it have equal indices
-pub apart_getD : (xs : List ℕ) (i j : ℕ) → apart xs ≡ true → i < length xs → j < length xs → get_or xs i 0 ≡ get_or xs j 0 → i ≡ j
-apart_getD [] i j a h k e = absurd (omega arith)
-apart_getD (x ∷ xs) zero zero a h k e = refl
-apart_getD (x ∷ xs) zero (suc j) a h k e =
-    absurd (both_ways (among x xs) (apart_parts x xs a).0 (subst (λ y. among y xs ≡ true) (sym e) (among_getD xs j (omega arith))))
-apart_getD (x ∷ xs) (suc i) zero a h k e =
-    absurd (both_ways (among x xs) (apart_parts x xs a).0 (subst (λ y. among y xs ≡ true) e (among_getD xs i (omega arith))))
-apart_getD (x ∷ xs) (suc i) (suc j) a h k e = ap suc (apart_getD xs i j (apart_parts x xs a).1 (omega arith) (omega arith) e)
+pub apart_get_or : (xs : List ℕ) (i j : ℕ) → apart xs ≡ true → i < length xs → j < length xs → get_or xs i 0 ≡ get_or xs j 0 → i ≡ j
+apart_get_or [] i j a h k e = absurd (omega arith)
+apart_get_or (x ∷ xs) zero zero a h k e = refl
+apart_get_or (x ∷ xs) zero (suc j) a h k e =
+    absurd (both_ways (among x xs) (apart_parts x xs a).0 (subst (λ y. among y xs ≡ true) (sym e) (among_get_or xs j (omega arith))))
+apart_get_or (x ∷ xs) (suc i) zero a h k e =
+    absurd (both_ways (among x xs) (apart_parts x xs a).0 (subst (λ y. among y xs ≡ true) e (among_get_or xs i (omega arith))))
+apart_get_or (x ∷ xs) (suc i) (suc j) a h k e = ap suc (apart_get_or xs i j (apart_parts x xs a).1 (omega arith) (omega arith) e)
 
 -- two lists, one after the other
 pub among_append : (x : ℕ) (xs ys : List ℕ) → among x (xs ++ ys) ≡ (among x xs || among x ys)

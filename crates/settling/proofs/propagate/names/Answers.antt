@@ -3,7 +3,7 @@ use Rattle.banks.specs.Calls.{rule_at}
 use Rattle.banks.specs.Names.{among}
 use Rattle.banks.proofs.Calling.{arity_few}
 use Rattle.settling.proofs.Asking.{placed, not_placed}
-use Rattle.settling.proofs.Listing.{among_getD}
+use Rattle.settling.proofs.Listing.{among_get_or}
 use Rattle.settling.proofs.Waking.{not_among}
 use Rattle.settling.proofs.propagate.names.Goals as goal
 
@@ -12,7 +12,7 @@ returns-then-named-row g c =
     let Rs = g.B.Bank.rules c.args.bank.now in
     let answer = c.in-Ok.ensures in
     let names = (rule_at Rs c.args.rule).names in
-    sym (subst (λ r. among r names ≡ true) (sym answer.1 ∙ c.if-named-row.true) (among_getD names c.loop-named.place (placed Rs c.args.rule c.loop-named.place answer.0).1))
+    sym (subst (λ r. among r names ≡ true) (sym answer.1 ∙ c.if-named-row.true) (among_get_or names c.loop-named.place (placed Rs c.args.rule c.loop-named.place answer.0).1))
 
 pub overflow_add-place : goal.overflow_add-place
 overflow_add-place g c =
