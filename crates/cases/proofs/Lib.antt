@@ -1,3 +1,3 @@
 pub mod Members
 pub mod Tuples
-mod Tested
+pub mod Tested

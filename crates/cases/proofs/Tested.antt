@@ -1,33 +1,32 @@
 -- One test of a case that is computed, and that a case which passes it holds.
-use Rattle.std.proofs.Common.{◌≡◌, ℕ, zero, suc, ◌^◌, ◌<◌, Bool, true, false, ◌&&◌, eqb, ltb, List, [], ◌∷◌, map, length, replicate, Decides, sym, refl, ◌∙◌, subst, ap₂, arith, pow_pos}
+use Rattle.std.proofs.Common.{◌≡◌, ℕ, zero, suc, ◌^◌, Bool, true, false, ◌&&◌, eqb, ltb, List, [], ◌∷◌, map, length, replicate, Decides, sym, refl, ◌∙◌, subst, ap₂, arith, pow_pos}
 use Rattle.std.specs.List.{range_with_len, AllByRecursion}
 use Rattle.std.proofs.lemmas.List.FromFn.{get_or-map-range_with_len, length-map-range_with_len}
 use Rattle.std.proofs.lemmas.List.{get_or_past, length-replicate}
 use Rattle.std.proofs.lemmas.Bool.{and_parts, eqb-true, ltb-true}
-use Rattle.std.proofs.lemmas.Bool.Decides.{Decides-like}
 use Rattle.rows.specs.Choices.{choices, stands, members}
 use Rattle.banks.specs.Calls.{Shows}
 use Rattle.banks.specs.Rules.{Sheet, Rule, arity, SupportAt}
 use Rattle.diagrams.specs.Diagrams.{path}
 use Rattle.cases.specs.Cases.{Case, supports, Holds, table, CasesHold}
-use Rattle.cases.proofs.Tuples.{Small, live_tuples, live_in, in_live, at_place, at_place_decides}
+use Rattle.cases.proofs.Tuples.{Small, live_tuples, at_place, support_decides}
 
-abbrev small : Sheet → Bool
+abbrev pub small : Sheet → Bool
 small [] = true
 small (m ∷ s) = ltb m (2 ^ choices) && small s
 
-small_rows : (s : Sheet) → small s ≡ true → Small s
+pub small_rows : (s : Sheet) → small s ≡ true → Small s
 small_rows [] e r = pow_pos choices
 small_rows (m ∷ s) e zero = ltb-true m (2 ^ choices) (and_parts (ltb m (2 ^ choices)) (small s) e).0
 small_rows (m ∷ s) e (suc r) = small_rows s (and_parts (ltb m (2 ^ choices)) (small s) e).1 r
 
-abbrev same : List ℕ → List ℕ → Bool
+abbrev pub same : List ℕ → List ℕ → Bool
 same [] [] = true
 same [] (y ∷ ys) = false
 same (x ∷ xs) [] = false
 same (x ∷ xs) (y ∷ ys) = eqb x y && same xs ys
 
-same_lists : (xs ys : List ℕ) → same xs ys ≡ true → xs ≡ ys
+pub same_lists : (xs ys : List ℕ) → same xs ys ≡ true → xs ≡ ys
 same_lists [] [] e = refl
 same_lists [] (y ∷ ys) e = absurd (let z : ◌≡◌ {A = ℕ} 0 1 = cc in omega arith)
 same_lists (x ∷ xs) [] e = absurd (let z : ◌≡◌ {A = ℕ} 0 1 = cc in omega arith)
@@ -49,19 +48,12 @@ shown_shows : (s : Sheet) (R : Rule) → Small s → Shows s R (replicate (arity
 unfolding zeros
 shown_shows s R low = record {
   long = length-map-range_with_len at 0 (arity R) ∙ sym (length-replicate (arity R) 0);
-  exact = λ p v h. subst (λ m. Decides (stands m v) (SupportAt s R p v)) (sym (get_or-map-range_with_len at 0 (arity R) p p 0 h (omega arith))) (exact p v h);
+  exact = λ p v h. subst (λ m. Decides (stands m v) (SupportAt s R p v)) (sym (get_or-map-range_with_len at 0 (arity R) p p 0 h (omega arith))) (support_decides s R low p v h);
   beyond = λ p h. get_or_past (shown s R) p 0 (omega (arith, length-map-range_with_len at 0 (arity R))) ∙ sym (get_or_past (zeros (arity R)) p 0 (omega (arith, zeros_long (arity R))));
 }
   where
     at : ℕ → ℕ
     at p = at_place p (live_tuples s R)
-
-    exact : (p v : ℕ) → p < arity R → Decides (stands (at_place p (live_tuples s R)) v) (SupportAt s R p v)
-    exact p v h =
-        Decides-like (stands (at_place p (live_tuples s R)) v)
-        (λ m. record { placed = h; tuple = m.0; live = in_live s R m.0 m.1; there = m.2 })
-        (λ a. (a.tuple, live_in s R a.tuple low a.live, a.there))
-        (at_place_decides p v (live_tuples s R))
 
 abbrev passes : Case → Bool
 passes (supports R s masks) = small s && same masks (shown s R)

@@ -3,9 +3,10 @@ use Rattle.std.proofs.Common.{◌≡◌, ℕ, zero, suc, ◌^◌, ◌<◌, true,
 use lib.Bits.{bit_or}
 use Rattle.std.specs.List.{flat_map}
 use Rattle.std.proofs.lemmas.Bool.{or_cases, or_left, or_right, eqb-true, eq-eqb, both_ways}
+use Rattle.std.proofs.lemmas.Bool.Decides.{Decides-like}
 use Rattle.rows.specs.Choices.{choices, stands, members}
 use Rattle.rows.proofs.Masks.{stands_zero, stands_or, stands_bit}
-use Rattle.banks.specs.Rules.{Sheet, Tuple, Rule, row, Live}
+use Rattle.banks.specs.Rules.{Sheet, Tuple, Rule, row, arity, Live, SupportAt}
 use Rattle.cases.proofs.Members.{In, in_map, map_in, in_joined, joined_in, in_kept, kept_in, in_members, members_in}
 
 -- the tuples with a choice of each list, in order
@@ -79,3 +80,11 @@ at_place_decides p v (t ∷ ts) = (there (at_place_decides p v ts).0, back (at_p
         (λ e. or_left (stands (2 ^ get_or t p 0) v) (stands (at_place p ts) v) (stands_bit (get_or t p 0) v ∙ eq-eqb v (get_or t p 0) (sym m.2 ∙ ap (λ u. get_or u p 0) e)))
         (λ i. or_right (stands (2 ^ get_or t p 0) v) (stands (at_place p ts) v) (rest (m.0, i, m.2)))
         m.1
+
+-- those of the live tuples have support there
+pub support_decides : (s : Sheet) (R : Rule) → Small s → (p v : ℕ) → p < arity R → Decides (stands (at_place p (live_tuples s R)) v) (SupportAt s R p v)
+support_decides s R small p v h =
+    Decides-like (stands (at_place p (live_tuples s R)) v)
+    (λ m. record { placed = h; tuple = m.0; live = in_live s R m.0 m.1; there = m.2 })
+    (λ a. (a.tuple, live_in s R a.tuple small a.live, a.there))
+    (at_place_decides p v (live_tuples s R))

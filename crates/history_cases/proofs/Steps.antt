@@ -1,5 +1,5 @@
 -- The calls of a sheet as functions that can be computed, and tests under which they move the sheet as they should.
-use Rattle.std.proofs.Common.{◌≡◌, ℕ, suc, ◌+◌, ◌^◌, ◌<◌, Bool, true, false, cond, not, ◌&&◌, eqb, ltb, leb, List, [], ◌∷◌, ◌++◌, map, length, get_or, take, drop, set, Some, None, filter, Option, sym, refl, ap, ◌∙◌, subst, ap₂, arith}
+use Rattle.std.proofs.Common.{◌≡◌, ℕ, suc, ◌+◌, ◌^◌, ◌<◌, Bool, true, cond, not, ◌&&◌, eqb, ltb, leb, List, [], ◌∷◌, ◌++◌, map, length, get_or, take, drop, set, Some, None, filter, Option, sym, refl, ap, ◌∙◌, subst}
 use lib.Bits.{bit_xor}
 use Rattle.std.specs.List.{AllByRecursion}
 use Rattle.std.proofs.lemmas.List.{get_or-set_same, take-append-drop, drop_more}
@@ -22,7 +22,8 @@ use Rattle.history_cases.specs.Runs.{Step, step, Run}
 use Rattle.history_cases.proofs.Struck.{struck_between, each_once, each_once_holds}
 use Rattle.history_cases.proofs.Sweeps.{set_elsewhere, sweeps, supported, largest}
 use Rattle.cases.proofs.Tuples.{Small}
-use Rattle.history_cases.proofs.Small.{small, small_rows, none_live, dead}
+use Rattle.cases.proofs.Tested.{small, small_rows, same, same_lists}
+use Rattle.history_cases.proofs.Small.{none_live, dead}
 
 -- other rows, and more on the record
 abbrev changed : State → Sheet → List ℕ → State
@@ -105,12 +106,6 @@ all_may_name w (R ∷ Rs) = may_name w R.names && all_may_name w Rs
 abbrev fine_wiped : ℕ → List Rule → Sheet → Bool
 fine_wiped w Rs s = may_hold w (length Rs) && all_may_name w Rs && leb w (length s) && none_live s (rule_at Rs (first_dead s Rs))
 
-abbrev same : List ℕ → List ℕ → Bool
-same [] [] = true
-same [] (y ∷ ys) = false
-same (x ∷ xs) [] = false
-same (x ∷ xs) (y ∷ ys) = eqb x y && same xs ys
-
 abbrev fine_settled : List Rule → Sheet → Bool
 fine_settled Rs s =
     supported (swept Rs s) Rs && each_once s (swept Rs s) (struck Rs s) && same (restored (swept Rs s) (struck Rs s)) s
@@ -123,13 +118,6 @@ fine mark s = true
 fine (back k) s = is_found k s
 fine (keep k) s = is_found k s
 fine (settle w Rs n) s = small s.rows && cond (some_dead s.rows Rs) (fine_wiped w Rs s.rows) (fine_settled Rs s.rows)
-
-same_lists : (xs ys : List ℕ) → same xs ys ≡ true → xs ≡ ys
-same_lists [] [] e = refl
-same_lists [] (y ∷ ys) e = absurd (let z : ◌≡◌ {A = ℕ} 0 1 = cc in omega arith)
-same_lists (x ∷ xs) [] e = absurd (let z : ◌≡◌ {A = ℕ} 0 1 = cc in omega arith)
-same_lists (x ∷ xs) (y ∷ ys) e =
-    let p = and_parts (eqb x y) (same xs ys) e in ap₂ (λ (a : ℕ) (rest : List ℕ). a ∷ rest) (eqb-true x y p.0) (same_lists xs ys p.1)
 
 all_named : (w : ℕ) (Rs : List Rule) → all_may_name w Rs ≡ true → AllByRecursion (λ R. may_name w R.names ≡ true) Rs
 all_named w [] e = tt

@@ -11,8 +11,8 @@ use Rattle.trail.specs.Strokes.{Elsewhere}
 use Rattle.settling.specs.Settling.{Largest}
 use Rattle.settling.proofs.Chaining.{elsewhere_under, elsewhere_above}
 use Rattle.settling.proofs.Supporting.{under_self, under_trans, support_above}
-use Rattle.cases.proofs.Tuples.{Small, live_tuples, at_place}
-use Rattle.history_cases.proofs.Small.{every, every_at, support_decides}
+use Rattle.cases.proofs.Tuples.{Small, live_tuples, at_place, support_decides}
+use Rattle.history_cases.proofs.Small.{every, every_at}
 
 -- a sheet lies under another, and above every sheet of a kind that lies under that one
 pub record Closer (Kind : Sheet → Type 0) (s t : Sheet) : Type 0 where
