@@ -1,42 +1,27 @@
--- The loop that keeps the choices of a mask that pass a test: a choice that is left passes or is still to be walked over, and none that
--- passes is lost.
-use Rattle.std.proofs.Common.{◌≡◌, ℕ, true, ◌⊎◌, sym, subst, inl, inr, ⊎_elim}
-use Rattle.std.proofs.lemmas.Bool.{cases_eq, both_ways}
-use Rattle.rows.specs.Choices.{stands, Kept, Without}
-use Rattle.rows.proofs.Masks.{stands_zero, without_stood, without_stays}
+-- The loop that keeps the choices of a mask by what a test answers: at a choice that is walked over the test may have answered whether it is
+-- left, and one that is still to be walked over is left.
+use Rattle.std.proofs.Common.{◌≡◌, ℕ, Bool, true, false, Decides, ap, ◌∙◌, ⊎_elim}
+use Rattle.std.proofs.lemmas.Bool.{cases_Bool, both_ways}
+use Rattle.rows.specs.Choices.{stands, Kept, KeptBy}
+use Rattle.rows.proofs.Masks.{stands_zero}
 
-pub record Keeping (Passes : ℕ → Type 0) (mask rest passing : ℕ) : Type 0 where
-  pub sound : (w : ℕ) → stands passing w ≡ true → (stands mask w ≡ true) × (Passes w ⊎ (stands rest w ≡ true))
-  pub whole : (w : ℕ) → stands mask w ≡ true → Passes w → stands passing w ≡ true
+pub record Keeping (Says : ℕ → Bool → Type 0) (mask rest passing : ℕ) : Type 0 where
+  pub part : (w : ℕ) → stands rest w ≡ true → stands mask w ≡ true
+  pub asked : (w : ℕ) → stands mask w ≡ true → stands rest w ≡ false → Says w (stands passing w)
+  pub ahead : (w : ℕ) → stands rest w ≡ true → stands passing w ≡ true
+  pub outside : (w : ℕ) → stands mask w ≡ false → stands passing w ≡ false
 
-module _ (Passes : ℕ → Type 0) (mask : ℕ) where
-  pub keeping_none : Keeping Passes mask mask mask
-  keeping_none = record { sound = λ w s. (s, inr s); whole = λ w s _. s }
+pub keeping_all : (Says : ℕ → Bool → Type 0) (mask rest passing : ℕ) → rest ≡ 0 → Keeping Says mask rest passing → KeptBy Says mask passing
+keeping_all Says mask rest passing e k = record { asked = λ w s. k.asked w s (ap (λ x. stands x w) e ∙ stands_zero w); others = k.outside }
 
-  pub keeping_all : (rest passing : ℕ) → rest ≡ 0 → Keeping Passes mask rest passing → Kept Passes mask passing
-  keeping_all rest passing e k w = (
-    (λ s. ((k.sound w s).0, ⊎_elim (λ p. p) (λ r. absurd (both_ways (stands 0 w) (stands_zero w) (subst (λ x. stands x w ≡ true) e r))) (k.sound w s).1)),
-    (λ m. k.whole w m.0 m.1),
-  )
-
-  module _ (rest after v : ℕ) (walked : Without v rest after) where
-    still : (w : ℕ) → Passes w ⊎ (stands rest w ≡ true) → (w ≡ v → Passes w) → Passes w ⊎ (stands after w ≡ true)
-    still w either here =
-        ⊎_elim inl (λ s. ⊎_elim (λ e. inl (here e)) (λ ne. inr (without_stays rest v after w walked s ne)) (cases_eq w v)) either
-
-    pub keeping_passed : (passing : ℕ) → Passes v → Keeping Passes mask rest passing → Keeping Passes mask after passing
-    keeping_passed passing p k = record {
-      sound = λ w s. ((k.sound w s).0, still w (k.sound w s).1 (λ e. subst Passes (sym e) p));
-      whole = k.whole;
-    }
-
-    pub keeping_failed : (passing less : ℕ) → (Passes v → ⊥) → Without v passing less → Keeping Passes mask rest passing → Keeping Passes mask after less
-    keeping_failed passing less f taken k = record {
-      sound = λ w s.
-          let stood = without_stood passing v less w taken s in
-          ((k.sound w stood.0).0, still w (k.sound w stood.0).1 (λ e. absurd (stood.1 e)));
-      whole = λ w s p. without_stays passing v less w taken (k.whole w s p) (λ e. f (subst Passes e p));
-    }
+-- where each answer at a choice of the mask decides whether it passes, exactly the choices that pass are kept
+pub kept_from : (Says : ℕ → Bool → Type 0) (Passes : ℕ → Type 0) (m r : ℕ) → KeptBy Says m r
+    → ((v : ℕ) (b : Bool) → stands m v ≡ true → Says v b → Decides b (Passes v)) → Kept Passes m r
+kept_from Says Passes m r k decides v =
+    ⊎_elim
+    (λ s. let d = decides v (stands r v) s (k.asked v s) in ((λ t. (s, d.0 t)), (λ p. d.1 p.1)))
+    (λ f. ((λ t. absurd (both_ways (stands r v) (k.others v f) t)), (λ p. absurd (both_ways (stands m v) f p.0))))
+    (cases_Bool (stands m v))
 
 -- what is kept by one test is kept by an equal one
 pub kept_like : (P Q : ℕ → Type 0) (m r : ℕ) → ((v : ℕ) → P v → Q v) → ((v : ℕ) → Q v → P v) → Kept P m r → Kept Q m r

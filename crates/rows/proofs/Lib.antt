@@ -1,3 +1,4 @@
 pub mod Masks
 pub mod Keeping
+pub mod Wording
 pub mod Refusing

@@ -1,18 +1,18 @@
 -- The laws of `stands`. Later proofs reach masks only through them.
-use Rattle.std.proofs.Common.{◌≡◌, ℕ, zero, suc, ◌+◌, ◌-◌, ◌*◌, ◌/◌, ◌%◌, ◌^◌, ◌<◌, ◌≤◌, Bool, true, false, cond, not, ◌&&◌, ◌||◌, eqb, List, [], ◌∷◌, length, Decides, filter, sym, refl, ap, ◌∙◌, subst, ⊎_elim, lt_of_lt_of_le, mod-lt, pow-suc, div-add-mod', zero-add, div-one, add-one, one-add, arith, lit<, pow_mono, pow-add, shr-shr, shr_lt}
-use native.Mathlib.Nat.{zero-div, div-eq_of_lt, mul-mod_left}
-use lib.Bits.{bit_and, bit_or, bit_xor, and_shr, or_shr, xor_shr, and_mod, or_mod, xor_mod, and_lt, and_le_r}
+use Rattle.std.proofs.Common.{◌≡◌, ℕ, zero, suc, ◌+◌, ◌-◌, ◌/◌, ◌%◌, ◌^◌, ◌<◌, ◌≤◌, min, max, Bool, true, false, cond, not, ◌&&◌, ◌||◌, eqb, ltb, List, [], ◌∷◌, length, Decides, filter, w64, sym, refl, ap, ◌∙◌, subst, ⊎_elim, mod-lt, div-add-mod', zero-add, div-one, add-one, one-add, arith, lit<, shr-shr, shr_lt}
+use lib.Bits.{bit_and, bit_or, bit_xor, and_lt, and_le_r}
 use lib.Count.{ones, ones_step, count_trailing_zeros, under}
-use lib.Pow.{pow-lt, shl-shr}
-use Rattle.std.proofs.lemmas.Bool.{cases_lt, cases_eq, cases_Bool, eqb-true, eqb-false, eq-eqb, ne_eqb, both_ways, and_parts, and_from, and_left, and_right, not-true, cond-true, cond-false}
+use Rattle.std.specs.Int.{bit_at, bit_not}
 use Rattle.std.specs.List.{range_with_len}
-use Rattle.rows.specs.Choices.{choices, stands, members, Without, Lowest}
+use Rattle.std.proofs.lemmas.Bool.{cases_lt, cases_eq, cases_Bool, eqb-true, eqb-false, eq-eqb, ne_eqb, both_ways, and_parts, and_left, and_right, not-true, cond-true, cond-false}
+use Rattle.std.proofs.lemmas.Bool.Decides.{nat_tests}
+use Rattle.std.proofs.lemmas.Nat.Bits.{bit_at_and, bit_at_or, bit_at_xor, bit_at_not, bit_at-lt, bit_at-zero, bit_at_above, bit_at_lowest, bit_at-pow_same, bit_at-pow_other, same_from_bits}
+use Rattle.rows.specs.Choices.{choices, stands, members, Only, Without, Lowest}
 
 pub and_true : (b : Bool) → b ≡ (b && true)
 and_true true = refl
 and_true false = refl
 
--- one digit
 digit_lt : (n : ℕ) → n % 2 < 2
 digit_lt n = mod-lt n (lit< tt)
 
@@ -21,68 +21,56 @@ digit_zero zero h e = refl
 digit_zero (suc zero) h e = absurd (both_ways (eqb 1 1) e refl)
 digit_zero (suc (suc n)) h e = omega arith
 
-and_digits : (x y : ℕ) → x < 2 → y < 2 → eqb (bit_and x y) 1 ≡ (eqb x 1 && eqb y 1)
-and_digits zero zero p q = refl
-and_digits zero (suc zero) p q = refl
-and_digits (suc zero) zero p q = refl
-and_digits (suc zero) (suc zero) p q = refl
-and_digits (suc (suc x)) y p q = absurd (omega arith)
-and_digits zero (suc (suc y)) p q = absurd (omega arith)
-and_digits (suc zero) (suc (suc y)) p q = absurd (omega arith)
+-- one digit, read as whether it is 1
+both_digits : (x y : ℕ) → x < 2 → y < 2 → eqb (min x y) 1 ≡ (eqb x 1 && eqb y 1)
+both_digits x y p q = grind (arith, nat_tests)
 
-or_digits : (x y : ℕ) → x < 2 → y < 2 → eqb (bit_or x y) 1 ≡ (eqb x 1 || eqb y 1)
-or_digits zero zero p q = refl
-or_digits zero (suc zero) p q = refl
-or_digits (suc zero) zero p q = refl
-or_digits (suc zero) (suc zero) p q = refl
-or_digits (suc (suc x)) y p q = absurd (omega arith)
-or_digits zero (suc (suc y)) p q = absurd (omega arith)
-or_digits (suc zero) (suc (suc y)) p q = absurd (omega arith)
+either_digit : (x y : ℕ) → x < 2 → y < 2 → eqb (max x y) 1 ≡ (eqb x 1 || eqb y 1)
+either_digit x y p q = grind (arith, nat_tests)
+
+other_digit : (x : ℕ) → x < 2 → eqb (1 - x) 1 ≡ not (eqb x 1)
+other_digit x p = grind (arith, nat_tests)
+
+pub stands_and : (a b v : ℕ) → stands (bit_and a b) v ≡ (stands a v && stands b v)
+unfolding stands
+stands_and a b v = ap (λ d. eqb d 1) (bit_at_and a b v) ∙ both_digits (bit_at a v) (bit_at b v) (bit_at-lt a v) (bit_at-lt b v)
+
+pub stands_or : (a b v : ℕ) → stands (bit_or a b) v ≡ (stands a v || stands b v)
+unfolding stands
+stands_or a b v = ap (λ d. eqb d 1) (bit_at_or a b v) ∙ either_digit (bit_at a v) (bit_at b v) (bit_at-lt a v) (bit_at-lt b v)
 
 -- exactly one of two tests
 abbrev pub one_of : Bool → Bool → Bool
 one_of true b = not b
 one_of false b = b
 
-xor_digits : (x y : ℕ) → x < 2 → y < 2 → eqb (bit_xor x y) 1 ≡ one_of (eqb x 1) (eqb y 1)
-xor_digits zero zero p q = refl
-xor_digits zero (suc zero) p q = refl
-xor_digits (suc zero) zero p q = refl
-xor_digits (suc zero) (suc zero) p q = refl
-xor_digits (suc (suc x)) y p q = absurd (omega arith)
-xor_digits zero (suc (suc y)) p q = absurd (omega arith)
-xor_digits (suc zero) (suc (suc y)) p q = absurd (omega arith)
-
-pub stands_and : (a b v : ℕ) → stands (bit_and a b) v ≡ (stands a v && stands b v)
-unfolding stands
-stands_and a b v =
-    ap (λ n. eqb (n % 2) 1) (and_shr a b v)
-    ∙ ap (λ n. eqb n 1) (and_mod (a / 2 ^ v) (b / 2 ^ v) 1)
-    ∙ and_digits (a / 2 ^ v % 2) (b / 2 ^ v % 2) (digit_lt (a / 2 ^ v)) (digit_lt (b / 2 ^ v))
-
-pub stands_or : (a b v : ℕ) → stands (bit_or a b) v ≡ (stands a v || stands b v)
-unfolding stands
-stands_or a b v =
-    ap (λ n. eqb (n % 2) 1) (or_shr a b v)
-    ∙ ap (λ n. eqb n 1) (or_mod (a / 2 ^ v) (b / 2 ^ v) 1)
-    ∙ or_digits (a / 2 ^ v % 2) (b / 2 ^ v % 2) (digit_lt (a / 2 ^ v)) (digit_lt (b / 2 ^ v))
+one_digit : (x y : ℕ) → x < 2 → y < 2 → eqb ((x + y) % 2) 1 ≡ one_of (eqb x 1) (eqb y 1)
+one_digit zero zero p q = refl
+one_digit zero (suc zero) p q = refl
+one_digit (suc zero) zero p q = refl
+one_digit (suc zero) (suc zero) p q = refl
+one_digit (suc (suc x)) y p q = absurd (omega arith)
+one_digit zero (suc (suc y)) p q = absurd (omega arith)
+one_digit (suc zero) (suc (suc y)) p q = absurd (omega arith)
 
 pub stands_xor : (a b v : ℕ) → stands (bit_xor a b) v ≡ one_of (stands a v) (stands b v)
 unfolding stands
-stands_xor a b v =
-    ap (λ n. eqb (n % 2) 1) (xor_shr a b v)
-    ∙ ap (λ n. eqb n 1) (xor_mod (a / 2 ^ v) (b / 2 ^ v) 1)
-    ∙ xor_digits (a / 2 ^ v % 2) (b / 2 ^ v % 2) (digit_lt (a / 2 ^ v)) (digit_lt (b / 2 ^ v))
+stands_xor a b v = ap (λ d. eqb d 1) (bit_at_xor a b v) ∙ one_digit (bit_at a v) (bit_at b v) (bit_at-lt a v) (bit_at-lt b v)
+
+-- in the other mask of 64 bits, the other choices stand
+stands_not : (m v : ℕ) → m < 2 ^ choices → v < choices → stands (bit_not w64 m) v ≡ not (stands m v)
+unfolding stands
+stands_not m v h l = ap (λ d. eqb d 1) (bit_at_not w64 m v h l) ∙ other_digit (bit_at m v) (bit_at-lt m v)
 
 -- no choice stands in the mask 0
 pub stands_zero : (v : ℕ) → stands 0 v ≡ false
 unfolding stands
-stands_zero v = ap (λ n. eqb (n % 2) 1) (zero-div (2 ^ v))
+stands_zero v = ap (λ d. eqb d 1) (bit_at-zero v)
 
 -- none stands past the mask's bits
 pub stands_high : (n m v : ℕ) → m < 2 ^ n → n ≤ v → stands m v ≡ false
 unfolding stands
-stands_high n m v h k = ap (λ x. eqb (x % 2) 1) (div-eq_of_lt (lt_of_lt_of_le h (pow_mono k)))
+stands_high n m v h k = ap (λ d. eqb d 1) (bit_at_above m n v h k)
 
 -- so a choice that stands is below the number of bits
 pub stands_below : (n m v : ℕ) → m < 2 ^ n → stands m v ≡ true → v < n
@@ -98,37 +86,19 @@ half_stands m v = stands_shr m 1 v ∙ ap (stands m) (one-add v)
 
 lowest_digit : (m : ℕ) → stands m 0 ≡ eqb (m % 2) 1
 unfolding stands
-lowest_digit m = ap (λ x. eqb (x % 2) 1) (div-one m)
-
-power_digit : (d : ℕ) → eqb (2 ^ d % 2) 1 ≡ eqb d 0
-power_digit zero = refl
-power_digit (suc d) = ap (λ x. eqb (x % 2) 1) (pow-suc 2 d) ∙ ap (λ x. eqb x 1) (mul-mod_left (2 ^ d) 2) ∙ sym (ne_eqb (suc d) 0 (λ e. omega arith))
+lowest_digit m = ap (λ d. eqb d 1) (bit_at_lowest m)
 
 -- the mask of one choice
 pub stands_bit : (k v : ℕ) → stands (2 ^ k) v ≡ eqb v k
 unfolding stands
-stands_bit k v = ⊎_elim above below (cases_lt k v)
-  where
-    above : k < v → stands (2 ^ k) v ≡ eqb v k
-    above h = ap (λ x. eqb (x % 2) 1) (div-eq_of_lt (pow-lt h)) ∙ sym (ne_eqb v k (λ e. omega arith))
-
-    below : v ≤ k → stands (2 ^ k) v ≡ eqb v k
-    below h =
-        let apart : k ≡ (k - v) + v = omega arith in
-        let shifted : 2 ^ k / 2 ^ v ≡ 2 ^ (k - v) = ap (λ x. 2 ^ x / 2 ^ v) apart ∙ ap (λ x. x / 2 ^ v) (pow-add 2 (k - v) v) ∙ shl-shr (2 ^ (k - v)) v in
-        ap (λ x. eqb (x % 2) 1) shifted ∙ power_digit (k - v)
-        ∙ ⊎_elim (λ e. eq-eqb (k - v) 0 (omega arith) ∙ sym (eq-eqb v k e)) (λ ne. ne_eqb (k - v) 0 (λ e. ne (omega arith)) ∙ sym (ne_eqb v k ne)) (cases_eq v k)
+stands_bit k v =
+    ⊎_elim (λ e. ap (λ i. eqb (bit_at (2 ^ k) i) 1) e ∙ ap (λ d. eqb d 1) (bit_at-pow_same k) ∙ sym (eq-eqb v k e))
+    (λ ne. ap (λ d. eqb d 1) (bit_at-pow_other k v ne) ∙ sym (ne_eqb v k ne)) (cases_eq v k)
 
 -- masks with the same choices are equal
 pub same_mask : (n a b : ℕ) → a < 2 ^ n → b < 2 ^ n → ((v : ℕ) → stands a v ≡ stands b v) → a ≡ b
-same_mask zero a b p q h = omega arith
-same_mask (suc n) a b p q h =
-    let high : a / 2 ≡ b / 2 =
-    same_mask n (a / 2) (b / 2) (shr_lt n 1 (subst (λ k. a < 2 ^ k) (sym (add-one n)) p)) (shr_lt n 1 (subst (λ k. b < 2 ^ k) (sym (add-one n)) q))
-    (λ v. half_stands a v ∙ h (suc v) ∙ sym (half_stands b v))
-    in
-    let low : a % 2 ≡ b % 2 = same_digit (a % 2) (b % 2) (digit_lt a) (digit_lt b) (sym (lowest_digit a) ∙ h 0 ∙ lowest_digit b) in
-    sym (div-add-mod' a 2) ∙ ap (λ x. x * 2 + a % 2) high ∙ ap (λ x. b / 2 * 2 + x) low ∙ div-add-mod' b 2
+unfolding stands
+same_mask n a b p q h = same_from_bits a b (λ v. same_digit (bit_at a v) (bit_at b v) (bit_at-lt a v) (bit_at-lt b v) (h v))
   where
     same_digit : (x y : ℕ) → x < 2 → y < 2 → eqb x 1 ≡ eqb y 1 → x ≡ y
     same_digit x y p q e =
@@ -206,27 +176,36 @@ members_ones m h = ones_from choices 0 m (subst (λ x. x < 2 ^ choices) (sym (di
 
 -- a choice that stands is taken out by the exclusive or with its mask
 pub taken_out : (m v : ℕ) → stands m v ≡ true → Without v m (bit_xor m (2 ^ v))
-taken_out m v s w = stands_xor m (2 ^ v) w ∙ ap (one_of (stands m w)) (stands_bit v w) ∙ ⊎_elim here elsewhere (cases_Bool (eqb w v))
+taken_out m v s w = stands_xor m (2 ^ v) w ∙ ap (one_of (stands m w)) (stands_bit v w) ∙ ⊎_elim here elsewhere (cases_eq w v)
   where
-    here : eqb w v ≡ true → one_of (stands m w) (eqb w v) ≡ (stands m w && not (eqb w v))
-    here e = let at : stands m w ≡ true = ap (stands m) (eqb-true w v e) ∙ s in simp (at, e)
+    here : w ≡ v → one_of (stands m w) (eqb w v) ≡ (stands m w && not (eqb w v))
+    here e = let at : stands m w ≡ true = ap (stands m) e ∙ s in simp (at, eq-eqb w v e)
 
-    elsewhere : eqb w v ≡ false → one_of (stands m w) (eqb w v) ≡ (stands m w && not (eqb w v))
-    elsewhere e = simp e (as_it_is (stands m w))
+    elsewhere : (w ≡ v → ⊥) → one_of (stands m w) (eqb w v) ≡ (stands m w && not (eqb w v))
+    elsewhere ne = simp (ne_eqb w v ne) (as_it_is (stands m w))
       where
         as_it_is : (b : Bool) → one_of b false ≡ (b && true)
         as_it_is true = refl
         as_it_is false = refl
 
--- one that does not stand is out already
-pub not_there : (m v : ℕ) → stands m v ≡ false → Without v m m
-not_there m v s w = ⊎_elim (λ e. here (eqb-true w v e)) (λ e. elsewhere e) (cases_Bool (eqb w v))
+-- and any choice by the mask of all the others
+pub left_out : (m v only : ℕ) → m < 2 ^ choices → only < 2 ^ choices → Only v only → Without v m (bit_and m (bit_not w64 only))
+left_out m v only h k is w = stands_and m (bit_not w64 only) w ∙ ⊎_elim low high (cases_lt w choices)
   where
-    here : w ≡ v → stands m w ≡ (stands m w && not (eqb w v))
-    here e = let at : stands m w ≡ false = ap (stands m) e ∙ s in simp at
+    low : w < choices → (stands m w && stands (bit_not w64 only) w) ≡ (stands m w && not (eqb w v))
+    low l =
+        let same : (eqb w v && ltb v choices) ≡ eqb w v = grind (arith, nat_tests) in
+        ap (λ b. stands m w && b) (stands_not only w k l ∙ ap not (is w ∙ same))
 
-    elsewhere : eqb w v ≡ false → stands m w ≡ (stands m w && not (eqb w v))
-    elsewhere e = simp e (and_true (stands m w))
+    high : choices ≤ w → (stands m w && stands (bit_not w64 only) w) ≡ (stands m w && not (eqb w v))
+    high l = let none : stands m w ≡ false = stands_high choices m w h l in simp none refl
+
+-- the choice that is taken out does not stand, and any other stands as it stood
+pub without_itself : (m v r : ℕ) → Without v m r → stands r v ≡ false
+without_itself m v r k = k v ∙ simp (eq-eqb v v refl) (and_right (stands m v) false refl)
+
+pub without_other : (m v r w : ℕ) → Without v m r → (w ≡ v → ⊥) → stands r w ≡ stands m w
+without_other m v r w k ne = k w ∙ ap (λ b. stands m w && not b) (ne_eqb w v ne) ∙ sym (and_true (stands m w))
 
 -- without a choice that stood, a mask is a smaller number
 pub without_lt : (n m v r : ℕ) → m < 2 ^ n → r < 2 ^ n → stands m v ≡ true → Without v m r → r < m
@@ -238,7 +217,7 @@ without_lt n m v r p q s k = ⊎_elim (λ h. h) (λ h. absurd (no_less h)) (case
     no_less : m ≤ r → ⊥
     no_less h =
         let same : r ≡ m = omega (arith, part) in
-        both_ways (stands r v) (k v ∙ simp (eq-eqb v v refl) (and_right (stands m v) false refl)) (ap (λ x. stands x v) same ∙ s)
+        both_ways (stands r v) (without_itself m v r k) (ap (λ x. stands x v) same ∙ s)
 
 -- what stands without v is what stood and is not v
 pub without_stood : (m v r w : ℕ) → Without v m r → stands r w ≡ true → (stands m w ≡ true) × (w ≡ v → ⊥)
@@ -246,13 +225,13 @@ without_stood m v r w k s =
     let parts = and_parts (stands m w) (not (eqb w v)) (sym (k w) ∙ s) in (parts.0, eqb-false w v (not-true (eqb w v) parts.1))
 
 pub without_stays : (m v r w : ℕ) → Without v m r → stands m w ≡ true → (w ≡ v → ⊥) → stands r w ≡ true
-without_stays m v r w k s ne = k w ∙ and_from (stands m w) (not (eqb w v)) s (ap not (ne_eqb w v ne))
+without_stays m v r w k s ne = without_other m v r w k ne ∙ s
 
 -- above a choice that is taken out, the choices are the same
 above_taken : (n a m r v : ℕ) → v < a → Without v m r → filter (stands m) (range_with_len a n) ≡ filter (stands r) (range_with_len a n)
 above_taken zero a m r v h out = refl
 above_taken (suc n) a m r v h out =
-    let same : stands r a ≡ stands m a = out a ∙ ap (λ b. stands m a && not b) (ne_eqb a v (λ e. omega arith)) ∙ sym (and_true (stands m a)) in
+    let same : stands r a ≡ stands m a = without_other m v r a out (λ e. omega arith) in
     let rest = above_taken n (a + 1) m r v (omega arith) out in
     ap (λ t. cond (stands m a) (a ∷ t) t) rest ∙ ap (λ b. cond b (a ∷ filter (stands r) (range_with_len (a + 1) n)) (filter (stands r) (range_with_len (a + 1) n))) (sym same)
 

@@ -1,5 +1,5 @@
 -- Choices, and the masks that hold sets of them.
-use Rattle.std.specs.Prelude.{◌≡◌, ℕ, ◌/◌, ◌%◌, ◌^◌, ◌<◌, Bool, true, false, not, ◌&&◌, List, Some, None, Decides, filter, Option, ◌==◌, nat_lt}
+use Rattle.std.specs.Prelude.{◌≡◌, ℕ, ◌/◌, ◌%◌, ◌^◌, ◌<◌, Bool, true, false, not, ◌&&◌, ◌||◌, List, Some, None, Decides, filter, Option, ◌==◌, nat_lt}
 use Rattle.std.specs.List.{range_with_len}
 
 -- How many choices there are: they are the numbers below this one.
@@ -18,9 +18,23 @@ members m = filter (stands m) (range_with_len 0 choices)
 abbrev pub Kept : (ℕ → Type 0) → ℕ → ℕ → Type 0
 Kept Passes m r = (v : ℕ) → Decides (stands r v) ((stands m v ≡ true) × Passes v)
 
+-- A test, by what it may be asked, may be asked at each choice of m.
+abbrev pub Askable : (ℕ → Type 0) → ℕ → Type 0
+Askable May m = (v : ℕ) → stands m v ≡ true → May v
+
+-- The mask r has the choices of m that a test keeps, and no others: `Says v b` says that the test may answer b at v, and at each choice
+-- of m it may answer whether the choice is left in r.
+pub record KeptBy (Says : ℕ → Bool → Type 0) (m r : ℕ) : Type 0 where
+  pub asked : (v : ℕ) → stands m v ≡ true → Says v (stands r v)
+  pub others : (v : ℕ) → stands m v ≡ false → stands r v ≡ false
+
 -- The mask r has the choice v, if it is one, and no other.
 abbrev pub Only : ℕ → ℕ → Type 0
 Only v r = (w : ℕ) → stands r w ≡ (w == v && nat_lt v choices)
+
+-- The mask r has the choices of m and v, if it is one, and no others.
+abbrev pub With : ℕ → ℕ → ℕ → Type 0
+With v m r = (w : ℕ) → stands r w ≡ (stands m w || w == v && nat_lt v choices)
 
 -- The mask r has the choices of m but v, and no others.
 abbrev pub Without : ℕ → ℕ → ℕ → Type 0

@@ -1,6 +1,6 @@
 // Sets of choices as masks.
 ghost use Rattle.std.specs.Prelude.{◌≡◌, length};
-ghost use Rattle.rows.specs.Choices.{stands, members, Only, Without};
+ghost use Rattle.rows.specs.Choices.{stands, members, Only, With, Without};
 
 // How many choices there are: they are the numbers below this one.
 pub const CHOICES: usize = 64;
@@ -26,13 +26,16 @@ pub fn only(choice: usize) -> u64
     if choice < CHOICES { 1u64 << choice } else { 0 }
 }
 
+// The mask with one choice more; no number from 64 on is one.
+pub fn with(mask: u64, choice: usize) -> u64
+    ensures { With choice mask result }
+{
+    mask | only(choice)
+}
+
 // The mask without one choice, whether or not it stands there.
 pub fn without(mask: u64, choice: usize) -> u64
     ensures { Without choice mask result }
 {
-    if contains(mask, choice) {
-        mask ^ (1u64 << choice)
-    } else {
-        mask
-    }
+    mask & !only(choice)
 }

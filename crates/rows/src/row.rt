@@ -13,7 +13,7 @@ pub struct Row {
 }
 
 impl Row {
-    // The row of the choices in a mask, which has to hold one.
+    // The row of the choices in a mask, which has to hold one. No `TryFrom`, since `new` and `mask` say at each call which way it goes.
     pub fn new(mask: u64) -> Result<Row, RowError>
         ensures { Answer row_says (first (fits (mask == 0) (plain 1) ∷ [])) (Unit {0}) (λ row. row.mask ≡ mask) result }
     {

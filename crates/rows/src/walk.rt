@@ -1,6 +1,6 @@
 // A walk over the choices of a mask, and what is done once at each of them.
-ghost use Rattle.std.specs.Prelude.{◌≡◌, ℕ, Decides};
-ghost use Rattle.rows.specs.Choices.{Kept, Walks};
+ghost use Rattle.std.specs.Prelude.{◌≡◌};
+ghost use Rattle.rows.specs.Choices.{Askable, KeptBy, Walks};
 ghost use Rattle.std.specs.Iterator.{at_most};
 
 use crate::mask;
@@ -31,29 +31,23 @@ impl Iterator for Walk {
         if self.rest == 0 {
             return None;
         }
+        // Cast, since a mask that is not 0 has fewer than 64 zeros below its lowest choice.
         let lowest = self.rest.trailing_zeros() as u8;
-        self.rest = mask::without(self.rest, lowest as usize);
+        self.rest = mask::without(self.rest, usize::from(lowest));
         Some(lowest)
     }
 }
 
-// A test of choices.
-pub trait Test {
-    // Which choices pass.
-    ghost passes: { Self → ℕ → Type 0 };
-
-    fn passes_at(&self, choice: u8) -> bool
-        ensures { Decides result (passes self.now choice) };
-}
-
-// The choices of a mask that pass a test.
-pub fn keep<T: Test>(mask: u64, test: &T) -> u64
-    ensures { Kept (T.passes test.now) mask result }
+// The choices of a mask that pass a test. The test is asked once at each of them, so it has to be one that may be asked there; one that
+// may be asked at any choice always is.
+pub fn keep<F: Fn(u8) -> bool>(mask: u64, test: F) -> u64
+    requires { Askable (F.pre test) mask }
+    ensures { KeptBy (F.post test) mask result }
 {
     let mut passing = mask;
     for choice in Walk::over(mask) {
-        if !test.passes_at(choice) {
-            passing = mask::without(passing, choice as usize);
+        if !test(choice) {
+            passing = mask::without(passing, usize::from(choice));
         }
     }
     passing

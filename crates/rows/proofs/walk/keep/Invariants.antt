@@ -2,4 +2,4 @@ use Rattle.rows.proofs.Keeping.{Keeping}
 use Rattle.rows.proofs.walk.keep.Given as goal
 
 abbrev pub invariant-loop-choice : goal.invariant-loop-choice
-invariant-loop-choice g l = Keeping (g.T.Test.passes l.test) l.mask l.choice-iterator.rest l.passing
+invariant-loop-choice g l = Keeping (goal.F-post g l.test) l.mask l.choice-iterator.rest l.passing
