@@ -1,7 +1,7 @@
 pub mod Calling
 pub mod Faulting
+pub mod Masking
 pub mod Naming
 pub mod Narrowing
-pub mod Pairing
 pub mod Planning
 pub mod Showing

@@ -1,8 +1,9 @@
 -- What the calls of a rule bank answer, read off its width and its list of rules.
-use Rattle.std.specs.Prelude.{◌≡◌, ℕ, ◌<◌, ◌≤◌, Bool, false, List, [], ◌∷◌, length, Decides, Option, Result, nat_le, nat_lt, slice_index, slice_index_or}
+use Rattle.std.specs.Prelude.{◌≡◌, ℕ, ◌<◌, ◌≤◌, Bool, false, List, [], ◌∷◌, length, replicate, Decides, Option, Result, nat_le, nat_lt, slice_index, slice_index_or}
 use Rattle.std.specs.List.{AllByRecursion}
 use Rattle.rows.specs.Choices.{stands, Kept}
 use Rattle.rows.specs.Refusals.{Refusal, plain, fits, first, Answer}
+use Rattle.banks.specs.Names.{max_arity}
 use Rattle.banks.specs.Rules.{Sheet, Tuple, Rule, arity, row, named, SupportAt, SupportIn, SupportedBy, Supported, Live, Plan, OfChoices, Meets}
 use Rattle.banks.specs.declared.refusal.CallError.{CallError}
 use Rattle.banks.specs.declared.refusal.CallError.TheVariants.{NoSuchRule, NoSuchPlace, TooFewRows, TooFewMasks}
@@ -53,6 +54,11 @@ abbrev pub SupportAnswer : ℕ → List Rule → ℕ → Sheet → List ℕ → 
 SupportAnswer w Rs k s before after =
     Answer call_says (first (no_such_rule Rs k ∷ too_few_rows w s ∷ too_few_masks (arity (rule_at Rs k)) before ∷ [])) (after ≡ before)
     (λ _. Shows s (rule_at Rs k) before after)
+
+-- The masks of the choices that have support at each place of a rule, with no choice beyond its arity.
+abbrev pub ShownAnswer : ℕ → List Rule → ℕ → Sheet → Result (List ℕ) CallError → Type 0
+ShownAnswer w Rs k s =
+    Answer call_says (first (no_such_rule Rs k ∷ too_few_rows w s ∷ [])) (Unit {0}) (λ masks. Shows s (rule_at Rs k) (replicate max_arity 0) masks)
 
 -- Whether a sheet is supported for the rules of a bank.
 abbrev pub SupportedAnswer : ℕ → List Rule → Sheet → Result Bool CallError → Type 0

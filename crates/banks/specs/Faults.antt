@@ -1,5 +1,6 @@
 -- Making a bank of one kind: which refusal comes first.
-use Rattle.std.specs.Prelude.{ℕ, suc, not, List, [], ◌∷◌, length, Option}
+use Rattle.std.specs.Prelude.{◌≡◌, ℕ, suc, true, false, not, List, [], ◌∷◌, length, take, Some, Ok, Err, Option, Result}
+use Rattle.std.specs.List.{AllByRecursion, slice_get}
 use Rattle.std.specs.Option.{option_map}
 use Rattle.rows.specs.Refusals.{Refusal, plain, fits, first}
 use Rattle.banks.specs.Lawful.{may_hold}
@@ -27,3 +28,11 @@ faults fault k (x ∷ xs) = option_map (of_rule k) (fault x) ∷ faults fault (s
 -- The refusal of a bank of width w with the rules xs, each of which may have a fault: 11 comes first, then the first faulty rule decides.
 abbrev pub bank_refusal : {X : Type 0} → ℕ → (X → Option Refusal) → List X → Option Refusal
 bank_refusal w fault xs = first (fits (not (may_hold w (length xs))) (plain 11) ∷ faults fault 0 xs)
+
+-- What an examination of the rules xs of a bank of width w comes to, where `Says x r` holds of what the check of a rule x answers: the
+-- size is refused first, and then the first rule that its check refuses, after rules that it accepts.
+abbrev pub Examined : {X F : Type 0} → (X → Result (Unit {0}) F → Type 0) → ℕ → List X → Result (Unit {0}) (BankError F) → Type 0
+Examined Says w xs (Ok u) = (may_hold w (length xs) ≡ true) × AllByRecursion (λ x. Says x (Ok tt)) xs
+Examined Says w xs (Err Size) = may_hold w (length xs) ≡ false
+Examined {X} Says w xs (Err (Rule k f)) =
+    (may_hold w (length xs) ≡ true) × AllByRecursion (λ x. Says x (Ok tt)) (take k xs) × (x : X) × (slice_get xs k ≡ Some x) × Says x (Err f)

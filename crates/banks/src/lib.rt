@@ -2,7 +2,9 @@
 #![tactic(auto)]
 
 pub mod bank;
+pub mod checking;
 pub mod limits;
 pub mod pair;
+pub mod picking;
 pub mod questions;
 pub mod refusal;

@@ -26,6 +26,7 @@ pub fn may_name(width: usize, rows: &[usize]) -> bool
     if rows.is_empty() || rows.len() > MAX_ARITY {
         return false;
     }
+    // By place, since each row is looked for among those that come after it.
     for (place, row) in rows.iter().enumerate() {
         if *row >= width || rows[place + 1..].contains(row) {
             return false;

@@ -3,7 +3,7 @@ ghost use Rattle.std.specs.Prelude.{◌≡◌, ℕ, ◌<◌, Bool, [], ◌∷◌
 ghost use Rattle.rows.specs.Refusals.{Answer, first};
 ghost use Rattle.banks.specs.Rules.{NoRowEmpty, OfChoices};
 ghost use Rattle.rows.specs.Choices.{Only};
-ghost use Rattle.banks.specs.Calls.{call_says, too_few_rows, too_few_masks, SupportedByAnswer, SupportedAnswer, LiveAnswer, MeetsAnswer, NarrowedAnswer, ChoicesAnswer};
+ghost use Rattle.banks.specs.Calls.{call_says, too_few_rows, too_few_masks, ShownAnswer, SupportedByAnswer, SupportedAnswer, LiveAnswer, MeetsAnswer, NarrowedAnswer, ChoicesAnswer};
 
 use crate::bank::Bank;
 use crate::limits::{MAX_ARITY, MAX_WIDTH};
@@ -27,23 +27,26 @@ pub fn admit(width: usize, arity: usize, rows: &[u64], masks: &[u64]) -> Result<
 fn no_row_empty(rows: &[u64]) -> bool
     ensures { Decides result (NoRowEmpty rows.now) }
 {
-    for row in rows {
-        if *row == 0 {
-            return false;
-        }
-    }
-    true
+    rows.iter().all(|row| *row != 0)
+}
+
+// The masks of the choices that have support at each place of a rule; beyond its arity no choice has. Bank, rule and rows are handed on one
+// by one here and below, as `Bank::support` takes them.
+fn shown<B: Bank>(bank: &B, rule: usize, rows: &[u64]) -> Result<[u64; MAX_ARITY], CallError>
+    ensures { ShownAnswer (B.wide bank.now) (B.rules bank.now) rule rows.now result }
+{
+    let mut masks = [0u64; MAX_ARITY];
+    bank.support(rule, rows, &mut masks)?;
+    Ok(masks)
 }
 
 // Whether every choice of the rows has support in a rule.
 fn supported_by<B: Bank>(bank: &B, rule: usize, rows: &[u64]) -> Result<bool, CallError>
     ensures { SupportedByAnswer (B.wide bank.now) (B.rules bank.now) rule rows.now result }
 {
-    let mut masks = [0u64; MAX_ARITY];
-    bank.support(rule, rows, &mut masks)?;
-    for place in 0..bank.arity(rule)? {
-        let row = bank.row_at(rule, place)?;
-        if masks[place] != rows[row] {
+    let masks = shown(bank, rule, rows)?;
+    for (place, mask) in masks[..bank.arity(rule)?].iter().enumerate() {
+        if *mask != rows[bank.row_at(rule, place)?] {
             return Ok(false);
         }
     }
@@ -78,12 +81,11 @@ fn narrowed<B: Bank>(
 ) -> Result<u64, CallError>
     ensures { NarrowedAnswer (B.wide bank.now) (B.rules bank.now) rule rows.now row mask result }
 {
-    let mut masks = [0u64; MAX_ARITY];
-    bank.support(rule, rows, &mut masks)?;
+    let masks = shown(bank, rule, rows)?;
     let mut passing = mask;
-    for place in 0..bank.arity(rule)? {
+    for (place, shown) in masks[..bank.arity(rule)?].iter().enumerate() {
         if bank.row_at(rule, place)? == row {
-            passing &= masks[place];
+            passing &= *shown;
         }
     }
     Ok(passing)
@@ -96,10 +98,10 @@ pub fn supported_choices<B: Bank>(bank: &B, rows: &[u64], row: usize) -> Result<
     if rows.len() < bank.width() {
         return Err(CallError::TooFewRows);
     }
-    if row >= rows.len() {
+    let Some(mask) = rows.get(row) else {
         return Ok(0);
-    }
-    let mut passing = rows[row];
+    };
+    let mut passing = *mask;
     for rule in 0..bank.rule_count() {
         passing = narrowed(bank, rule, rows, row, passing)?;
     }
@@ -110,8 +112,7 @@ pub fn supported_choices<B: Bank>(bank: &B, rows: &[u64], row: usize) -> Result<
 fn has_live_tuple<B: Bank>(bank: &B, rule: usize, rows: &[u64]) -> Result<bool, CallError>
     ensures { LiveAnswer (B.wide bank.now) (B.rules bank.now) rule rows.now result }
 {
-    let mut masks = [0u64; MAX_ARITY];
-    bank.support(rule, rows, &mut masks)?;
+    let masks = shown(bank, rule, rows)?;
     Ok(masks[0] != 0)
 }
 
@@ -119,12 +120,7 @@ fn has_live_tuple<B: Bank>(bank: &B, rule: usize, rows: &[u64]) -> Result<bool, 
 fn of_choices(plan: &[u8]) -> bool
     ensures { Decides result (OfChoices plan.now) }
 {
-    for choice in plan {
-        if *choice as usize >= CHOICES {
-            return false;
-        }
-    }
-    true
+    plan.iter().all(|choice| usize::from(*choice) < CHOICES)
 }
 
 // Rows in each of which only the choice of a plan stands.
@@ -132,10 +128,9 @@ fn rows_of(plan: &[u8]) -> [u64; MAX_WIDTH]
     ensures { (k : ℕ) → k < length plan.now → k < 256 → Only (slice_index plan.now k) (slice_index result k) }
 {
     let mut rows = [0u64; MAX_WIDTH];
-    for (row, choice) in plan.iter().enumerate() {
-        if row < MAX_WIDTH {
-            rows[row] = only(*choice as usize);
-        }
+    // Indexed, since after writes through `iter_mut().zip(plan)` a proof knows nothing of the rows.
+    for (row, choice) in plan[..plan.len().min(MAX_WIDTH)].iter().enumerate() {
+        rows[row] = only(usize::from(*choice));
     }
     rows
 }

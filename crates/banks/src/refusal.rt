@@ -1,10 +1,11 @@
 // Why a bank refuses.
+ghost use Rattle.std.specs.Prelude.{◌≡◌, [], ◌∷◌};
 ghost use Rattle.rows.specs.Refusals.{Refusal};
 ghost use Rattle.banks.specs.Calls.{call_says};
 ghost use Rattle.banks.specs.Faults.{bank_says};
 ghost use Rattle.banks.specs.Pairs.{pair_says};
 
-use rows::refusal::Numbered;
+use rows::refusal::{At, Numbered, Refused};
 
 // Why a call of a bank is refused.
 #[derive(Clone, Copy, PartialEq, Eq, Debug)]
@@ -22,18 +23,27 @@ pub enum CallError {
 impl Numbered for CallError {
     ghost says = { call_says };
 
-    fn number(&self) -> u32 {
-        match self {
+    fn refused(&self) -> Refused {
+        Refused::plain(match self {
             CallError::NoSuchRule => 22,
             CallError::NoSuchPlace => 23,
             CallError::TooFewRows => 24,
             CallError::TooFewMasks => 25,
-        }
+        })
     }
+}
 
-    fn value(&self, _index: usize) -> Option<usize> {
-        None
-    }
+// What can be wrong with a rule of one kind: a number, and a spot in the rule.
+pub trait Fault {
+    ghost says: { Self → Refusal };
+
+    // The number of the fault.
+    fn number(&self) -> u32
+        ensures { result ≡ (says self.now).number };
+
+    // Where it lies: an index in a pool, or 0.
+    fn spot(&self) -> usize
+        ensures { (says self.now).values ≡ result ∷ [] };
 }
 
 // Why a bank of one kind cannot be made. The fault of a rule is of the kind's own type.
@@ -45,27 +55,19 @@ pub enum BankError<F> {
     Rule { number: usize, fault: F },
 }
 
-impl<F: Numbered> Numbered for BankError<F> {
-    ghost says = { bank_says F.Numbered.says };
+impl<F: Fault> Numbered for BankError<F> {
+    ghost says = { bank_says F.Fault.says };
 
-    fn number(&self) -> u32 {
+    fn refused(&self) -> Refused {
         match self {
-            BankError::Size => 11,
-            BankError::Rule { fault, .. } => fault.number(),
-        }
-    }
-
-    // The rule's number, then the values of its fault.
-    fn value(&self, index: usize) -> Option<usize> {
-        match self {
-            BankError::Size => None,
-            BankError::Rule { number, fault } => {
-                if index == 0 {
-                    Some(*number)
-                } else {
-                    fault.value(index - 1)
-                }
-            }
+            BankError::Size => Refused::plain(11),
+            BankError::Rule { number, fault } => Refused {
+                number: fault.number(),
+                at: Some(At {
+                    rule: *number,
+                    spot: fault.spot(),
+                }),
+            },
         }
     }
 }
@@ -80,13 +82,9 @@ pub enum PairError {
 impl Numbered for PairError {
     ghost says = { pair_says };
 
-    fn number(&self) -> u32 {
-        match self {
+    fn refused(&self) -> Refused {
+        Refused::plain(match self {
             PairError::TooManyRules => 11,
-        }
-    }
-
-    fn value(&self, _place: usize) -> Option<usize> {
-        None
+        })
     }
 }

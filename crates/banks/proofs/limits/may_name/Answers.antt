@@ -1,6 +1,6 @@
-use Rattle.std.proofs.Common.{◌≡◌, ℕ, ◌+◌, ◌-◌, ◌≤◌, Bool, false, eqb, List, ◌∷◌, length, get_or, take, drop, sym, refl, ap, ◌∙◌, arith}
+use Rattle.std.proofs.Common.{◌≡◌, ℕ, ◌+◌, ◌-◌, ◌≤◌, Bool, false, eqb, List, ◌∷◌, length, get_or, take, drop, sym, ap, ◌∙◌, arith}
 use Rattle.std.specs.List.{IsAnyAnswer}
-use Rattle.std.proofs.lemmas.List.{drop_more, drop_all, take_rest}
+use Rattle.std.proofs.lemmas.List.{drop_more, take_rest}
 use Rattle.std.proofs.lemmas.Bool.{lt-ltb, le-ltb, eqb-false}
 use Rattle.banks.specs.Names.{among}
 use Rattle.banks.proofs.Naming.{among_has, fine, fine_step, fine_wide, fine_twice, may_name_fine}
@@ -10,9 +10,6 @@ use Rattle.banks.proofs.limits.may_name.Goals.{then-row-width-via-then-row-width
 -- what a search of the rows from a place on answers
 searched : (rows : List ℕ) (i x : ℕ) (r : Bool) → IsAnyAnswer (λ y t. eqb y x ≡ t) (take (length rows - i) (drop i rows)) r → among x (drop i rows) ≡ r
 searched rows i x r h = ap (among x) (sym (take_rest rows i)) ∙ sym (among_has x (take (length rows - i) (drop i rows)) r h)
-
-pub loop-place-init : goal.loop-place-init
-loop-place-init c = refl
 
 pub returns-then-row-width : goal.returns-then-row-width
 returns-then-row-width c =
@@ -38,10 +35,3 @@ loop-place-preserved c =
     let front = drop_more rows i 0 c.loop-place-test.true in
     sym (fine_step w (get_or rows i 0) (drop (i + 1) rows) (lt-ltb (get_or rows i 0) w c.if-row-width.false)
     (searched rows (i + 1) (get_or rows i 0) c.contains.result c.contains.ensures.cases ∙ c.if-contains.false)) ∙ sym (ap (fine w) front) ∙ c.loop-place.invariant
-
-pub returns : goal.returns
-returns c =
-    let rows = c.args.rows.now in
-    let w = c.args.width in
-    let some : 1 ≤ length rows = omega (arith, eqb-false (length rows) 0 (sym c.if-is_empty.ensures)) in
-    sym (may_name_fine w rows some c.if-rows-gt-MAX_ARITY.false ∙ sym c.loop-place.invariant ∙ ap (fine w) (drop_all c.loop-place.place rows c.loop-place-test.false))

@@ -1,13 +1,10 @@
-use Rattle.std.proofs.Common.{◌<◌, ◌≤◌, [], length, sym, refl, ◌∙◌, arith, below_none, below_more}
+use Rattle.std.proofs.Common.{◌<◌, ◌≤◌, [], length, sym, refl, ◌∙◌, arith, below_more}
 use Rattle.std.proofs.ByRecursion.{All-get_or, All-from_get_or}
 use Rattle.std.proofs.lemmas.Bool.{false≢true}
 use Rattle.rows.proofs.Refusing.{first_past, lt_fits_not}
 use Rattle.rows.specs.Refusals.{plain}
 use Rattle.banks.specs.Rules.{SupportedBy}
 use Rattle.banks.proofs.questions.supported.Goals as goal
-
-pub loop-rule-init : goal.loop-rule-init
-loop-rule-init g c = below_none _
 
 pub returns-then-not-branch : goal.returns-then-not-branch
 returns-then-not-branch g c =

@@ -5,4 +5,4 @@ use Rattle.banks.proofs.questions.supported_by.Given as goal
 
 abbrev pub invariant-loop-place : goal.invariant-loop-place
 invariant-loop-place g l =
-    (p : ℕ) → p < l.place → get_or l.masks p 0 ≡ row l.rows (named (rule_at (g.B.Bank.rules l.bank) l.rule) p)
+    (p : ℕ) → p < l.place → get_or l.mask-items p 0 ≡ row l.rows (named (rule_at (g.B.Bank.rules l.bank) l.rule) p)

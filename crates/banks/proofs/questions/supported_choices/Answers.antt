@@ -1,19 +1,17 @@
-use Rattle.std.proofs.Common.{◌≡◌, ℕ, ◌≤◌, [], length, subst, arith}
+use Rattle.std.proofs.Common.{◌≡◌, ℕ, ◌≤◌, [], length, sym, subst, arith}
+use Rattle.std.proofs.lemmas.Bool.{ltb-false}
 use Rattle.rows.proofs.Refusing.{first_past, lt_fits_not}
 use Rattle.rows.specs.Refusals.{plain}
-use Rattle.banks.proofs.Narrowing.{Choosing, choosing_more, choosing_all, no_choices}
+use Rattle.banks.proofs.Narrowing.{Choosing, choosing_all, no_choices}
 use Rattle.banks.proofs.questions.supported_choices.Goals as goal
 
-pub returns-then-row-rows : goal.returns-then-row-rows
-returns-then-row-rows g c =
+pub returns-in_default : goal.returns-in_default
+returns-in_default g c =
     let bank = c.args.bank.now in
     let s = c.args.rows.now in
     let enough : g.B.Bank.wide bank ≤ length s = omega (arith, c.width.ensures) in
-    (first_past _ [] (lt_fits_not (length s) (g.B.Bank.wide bank) (plain 24) enough), no_choices s (g.B.Bank.rules bank) c.args.row c.if-row-rows.true)
-
-pub loop-rule-preserved : goal.loop-rule-preserved
-loop-rule-preserved g c =
-    choosing_more c.args.rows.now (g.B.Bank.rules c.args.bank.now) c.args.row c.loop-rule.rule c.loop-rule.passing c.in_ok-passing.passing c.loop-rule.invariant c.in_ok-passing.ensures.1
+    let past : length s ≤ c.args.row = ltb-false c.args.row (length s) (sym c.in_default.ensures.lookup.0) in
+    (first_past _ [] (lt_fits_not (length s) (g.B.Bank.wide bank) (plain 24) enough), no_choices s (g.B.Bank.rules bank) c.args.row past)
 
 pub returns : goal.returns
 returns g c =
