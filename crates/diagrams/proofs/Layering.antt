@@ -1,19 +1,16 @@
 -- What the rules for nodes and arcs give: places and the nodes of the arcs never fall, and a target comes after its node.
-use Rattle.std.proofs.Common.{◌≡◌, ℕ, zero, suc, ◌-◌, ◌<◌, ◌≤◌, Bool, true, false, ◌&&◌, ◌||◌, eqb, ltb, leb, List, length, sym, ap, ◌∙◌, ⊎_elim, arith}
-use Rattle.std.proofs.lemmas.Bool.{and_parts, or_cases, not-true, eqb-true, eq-eqb, leb-true, ltb-true, cases_eq, cases_lt}
+use Rattle.std.proofs.Common.{◌≡◌, ℕ, zero, suc, ◌-◌, ◌<◌, ◌≤◌, true, ◌||◌, eqb, List, length, ap, ◌∙◌, ⊎_elim, arith, rules, tests}
+use Rattle.std.proofs.lemmas.Bool.{or_cases, eqb-true, eq-eqb, cases_eq, cases_lt}
+use Rattle.std.proofs.lemmas.Bool.Decides.{nat_tests}
 use Rattle.rows.specs.Choices.{choices}
 use Rattle.diagrams.specs.declared.diagram.Arc.{Arc}
-use Rattle.diagrams.specs.Layers.{place, arc, alike, node_fits, before, arc_fits, Layered}
+use Rattle.diagrams.specs.Layers.{place, arc, ArcBounds, node_fits, before, arc_fits, Layered}
 
 -- what never falls from one number to the next never falls
 pub rising : (f : ℕ → ℕ) (n : ℕ) → ((i : ℕ) → suc i < n → f i ≤ f (suc i)) → (i j : ℕ) → i ≤ j → j < n → f i ≤ f j
 rising f n step i zero le lt = let e : i ≡ 0 = omega arith in omega (arith, ap f e)
 rising f n step i (suc j) le lt =
     ⊎_elim (λ e. omega (arith, ap f e)) (λ ne. omega (arith, rising f n step i j (omega arith) (omega arith), step j lt)) (cases_eq i (suc j))
-
-same_tests : (a b : Bool) → alike a b ≡ true → a ≡ b
-same_tests true b e = sym e
-same_tests false b e = sym (not-true b e)
 
 -- a node that keeps its rule
 record Node (k : ℕ) (nodes : List ℕ) (n : ℕ) : Type 0 where
@@ -23,11 +20,7 @@ record Node (k : ℕ) (nodes : List ℕ) (n : ℕ) : Type 0 where
   pub last : eqb (place nodes n) k ≡ eqb (suc n) (length nodes)
 
 node_from : (k : ℕ) (nodes : List ℕ) (n : ℕ) → node_fits k nodes n ≡ true → Node k nodes n
-node_from k nodes n e =
-    let p = and_parts (leb (place nodes n) k && leb (place nodes (n - 1)) (place nodes n) && alike (eqb (place nodes n) 0) (eqb n 0)) (alike (eqb (place nodes n) k) (eqb (suc n) (length nodes))) e in
-    let q = and_parts (leb (place nodes n) k && leb (place nodes (n - 1)) (place nodes n)) (alike (eqb (place nodes n) 0) (eqb n 0)) p.0 in
-    let r = and_parts (leb (place nodes n) k) (leb (place nodes (n - 1)) (place nodes n)) q.0 in
-    record { most = leb-true _ _ r.0; rises = leb-true _ _ r.1; first = same_tests _ _ q.1; last = same_tests _ _ p.1 }
+node_from k nodes n e = search (rules, tests)
 
 -- an arc that keeps its rule
 pub record Placed (nodes : List ℕ) (arcs : List Arc) (i : ℕ) : Type 0 where
@@ -38,23 +31,10 @@ pub record Placed (nodes : List ℕ) (arcs : List Arc) (i : ℕ) : Type 0 where
   pub after : (eqb i 0 || before (arc arcs (i - 1)) (arc arcs i)) ≡ true
 
 placed_from : (nodes : List ℕ) (arcs : List Arc) (i : ℕ) → arc_fits nodes arcs i ≡ true → Placed nodes arcs i
-placed_from nodes arcs i e =
-    let a = arc arcs i in
-    let one = ltb a.node (length nodes) in
-    let two = ltb a.target (length nodes) in
-    let three = eqb (place nodes a.target) (suc (place nodes a.node)) in
-    let four = ltb a.choice choices in
-    let p = and_parts (one && two && three && four) (eqb i 0 || before (arc arcs (i - 1)) (arc arcs i)) e in
-    let q = and_parts (one && two && three) four p.0 in
-    let r = and_parts (one && two) three q.0 in
-    let s = and_parts one two r.0 in
-    record { node_in = ltb-true _ _ s.0; target_in = ltb-true _ _ s.1; above = eqb-true _ _ r.1; small = ltb-true _ _ q.1; after = p.1 }
+placed_from nodes arcs i e = search (rules, tests)
 
 not_after : (a b : Arc) → before a b ≡ true → a.node ≤ b.node
-not_after a b e =
-    ⊎_elim (λ t. omega (arith, ltb-true a.node b.node t))
-    (λ t. omega (arith, eqb-true a.node b.node (and_parts (eqb a.node b.node) (ltb a.choice b.choice) t).0))
-    (or_cases (ltb a.node b.node) (eqb a.node b.node && ltb a.choice b.choice) e)
+not_after a b e = grind (arith, nat_tests)
 
 module _ (k : ℕ) (nodes : List ℕ) (arcs : List Arc) (l : Layered k nodes arcs) where
   node_at : (n : ℕ) → n < length nodes → Node k nodes n
@@ -92,3 +72,8 @@ module _ (k : ℕ) (nodes : List ℕ) (arcs : List Arc) (l : Layered k nodes arc
           ⊎_elim (λ t. absurd (let z = eqb-true (suc i) 0 t in omega arith))
           (λ t. omega (arith, not_after (arc arcs (suc i - 1)) (arc arcs (suc i)) t, ap (λ j. (arc arcs j).node) e))
           (or_cases (eqb (suc i) 0) (before (arc arcs (suc i - 1)) (arc arcs (suc i))) (placed_at (suc i) h).after)
+
+  pub arc_bounds : (i : ℕ) (a : Arc) → i < length arcs → a ≡ arc arcs i → ArcBounds k nodes a
+  arc_bounds i a h e =
+      let p = placed_at i h in
+      rw e (record { node_in = p.node_in; placed = node_place i h; node_low = omega (arith, p.node_in, l.few); target_low = omega (arith, p.target_in, l.few) })

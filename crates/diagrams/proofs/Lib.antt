@@ -1,4 +1,3 @@
-pub mod Marking
 pub mod Layering
 pub mod Walking
 pub mod Sweeping

@@ -1,85 +1,113 @@
 -- The sweep from the last arc to the first, and the one from the first to the last.
-use Rattle.std.proofs.Common.{◌≡◌, ℕ, ◌+◌, ◌-◌, ◌*◌, ◌%◌, ◌^◌, ◌<◌, ◌≤◌, Bool, true, false, ◌&&◌, ◌||◌, eqb, List, [], ◌∷◌, ◌++◌, length, get_or, set, replicate, Decides, sym, refl, ap, ◌∙◌, subst, ⊎_elim, arith}
+use Rattle.std.proofs.Common.{◌≡◌, ℕ, ◌+◌, ◌-◌, ◌*◌, ◌%◌, ◌^◌, ◌<◌, ◌≤◌, Bool, true, false, ◌&&◌, ◌||◌, eqb, List, [], ◌∷◌, ◌++◌, length, get_or, set, take, replicate, Decides, sym, refl, ap, ◌∙◌, subst, ◌⊎◌, inl, inr, ⊎_elim, arith, rules, tests}
 use lib.Bits.{bit_or}
 use Rattle.std.proofs.lemmas.Nat.{one_shl}
-use Rattle.std.proofs.lemmas.List.{get_or-set_same, get_or-set_other, length-set}
+use Rattle.std.specs.List.{push}
+use Rattle.std.proofs.Math.Bool.{or-false}
+use Rattle.std.proofs.Math.Seq.{take-append_seam}
+use Rattle.std.proofs.lemmas.List.{get_or_push, length_push, get_or-take, length-take, take-take, get_or-set_same, get_or-set_other, length-set}
 use Rattle.std.proofs.lemmas.Bool.{and_parts, and_from, or_cases, or_left, or_right, eqb-true, eq-eqb, ne_eqb, both_ways, cases_eq}
 use Rattle.rows.specs.Choices.{stands}
 use Rattle.rows.proofs.Masks.{stands_zero, stands_or, stands_bit}
 use Rattle.banks.specs.Names.{max_arity}
 use Rattle.banks.specs.Rules.{Tuple}
 use Rattle.diagrams.specs.declared.diagram.Arc.{Arc}
-use Rattle.diagrams.specs.Layers.{place, arc, Layered}
-use Rattle.diagrams.specs.NodeSets.{member}
-use Rattle.diagrams.specs.Ways.{Step, Way, Ends, Through}
-use Rattle.diagrams.proofs.Layering.{placed_at, node_place, target_later, nodes_rise}
+use Rattle.diagrams.specs.Layers.{place, arc, ArcBounds, Layered}
+use Rattle.diagrams.specs.Ways.{arc_stands, Step, Way, Ends, Through}
+use Rattle.diagrams.proofs.Layering.{arc_bounds, placed_at, node_place, target_later, nodes_rise}
 use Rattle.diagrams.proofs.Walking.{step_at, way_joined}
-use Rattle.diagrams.proofs.Marking.{zeros}
+use Rattle.rows.proofs.Wording.{zeros}
+
+-- the set T has the node x, and the nodes of the set S
+module _ (x : ℕ) (S T : ℕ → Bool) (more : (n : ℕ) → T n ≡ (eqb n x || S n)) where
+  added : (n : ℕ) → n ≡ x → T n ≡ true
+  added n e = more n ∙ or_left (eqb n x) (S n) (eq-eqb n x e)
+
+  stays : (n : ℕ) → S n ≡ true → T n ≡ true
+  stays n s = more n ∙ or_right (eqb n x) (S n) s
+
+  -- no more than those
+  was : (n : ℕ) → T n ≡ true → (n ≡ x) ⊎ (S n ≡ true)
+  was n t = ⊎_elim (λ e. inl (eqb-true n x e)) inr (or_cases (eqb n x) (S n) (sym (more n) ∙ t))
 
 module _ (nodes : List ℕ) (arcs : List Arc) (masks : List ℕ) where
   -- the choice of an arc stands
   abbrev pub live : ℕ → Bool
-  live i = stands (get_or masks (place nodes (arc arcs i).node) 0) (arc arcs i).choice
+  live i = arc_stands nodes masks (arc arcs i)
 
   step_live : (n v m : ℕ) (s : Step nodes arcs masks n v m) → live s.number ≡ true
   step_live n v m s =
       ap (λ x. stands (get_or masks (place nodes x) 0) (arc arcs s.number).choice) s.from ∙ ap (stands (get_or masks (place nodes n) 0)) s.by ∙ s.standing
 
-  -- the arcs from number i on are swept: each node that is in reaches the end, and a swept arc whose target is in has its node in
-  pub record Back (i : ℕ) (S : ℕ → Bool) : Type 0 where
+  -- all arcs but the first, which are left, are swept: each node that is in reaches the end, and a swept arc whose target is in has its
+  -- node in
+  pub record Back (left : List Arc) (S : ℕ → Bool) : Type 0 where
+    pub front : left ≡ take (length left) arcs
     pub sound : (n : ℕ) → S n ≡ true → Ends nodes arcs masks n
     pub end : S (length nodes - 1) ≡ true
-    pub closed : (j : ℕ) → i ≤ j → j < length arcs → live j ≡ true → S (arc arcs j).target ≡ true → S (arc arcs j).node ≡ true
+    pub closed : (j : ℕ) → length left ≤ j → j < length arcs → live j ≡ true → S (arc arcs j).target ≡ true → S (arc arcs j).node ≡ true
 
-  pub back_none : (S T : ℕ → Bool) → ((n : ℕ) → S n ≡ false) → ((n : ℕ) → T n ≡ (eqb n (length nodes - 1) || S n)) → Back (length arcs) T
-  back_none S T none more = record {
-    sound = λ n t. ⊎_elim (λ e. ([], eqb-true n (length nodes - 1) e)) (λ s. absurd (both_ways (S n) (none n) s)) (or_cases (eqb n (length nodes - 1)) (S n) (sym (more n) ∙ t));
-    end = more (length nodes - 1) ∙ or_left (eqb (length nodes - 1) (length nodes - 1)) (S (length nodes - 1)) (eq-eqb (length nodes - 1) (length nodes - 1) refl);
-    closed = λ j a b. absurd (omega arith);
-  }
+  -- the last arc that is left is swept next
+  module _ (rest left : List Arc) (a : Arc) (S : ℕ → Bool) (b : Back rest S) (last : rest ≡ push left a) where
+    one_less : length rest ≡ length left + 1
+    one_less = ap length last ∙ length_push left a
 
-  module _ (i : ℕ) (S : ℕ → Bool) (positive : 0 < i) (b : Back i S) where
-    pub back_skip : (S (arc arcs (i - 1)).target && live (i - 1)) ≡ false → Back (i - 1) S
+    within : length left < length arcs
+    within = omega (arith, one_less, ap length b.front, length-take (length rest) arcs)
+
+    here : a ≡ arc arcs (length left)
+    here =
+        let d : Arc = record { node = 0; choice = 0; target = 0 } in
+        sym (get_or_push left a d (length left) refl) ∙ ap (λ x. get_or x (length left) d) (sym last ∙ b.front) ∙ get_or-take (length rest) arcs (length left) d (omega (arith, one_less))
+
+    front_left : left ≡ take (length left) arcs
+    front_left = sym (take-append_seam left (a ∷ [])) ∙ ap (take (length left)) (sym last ∙ b.front) ∙ take-take (length left) (length rest) arcs (omega (arith, one_less))
+
+    pub next_bounds : (k : ℕ) → Layered k nodes arcs → ArcBounds k nodes a
+    next_bounds k l = arc_bounds k nodes arcs l (length left) a within here
+
+    pub back_skip : (S a.target && arc_stands nodes masks a) ≡ false → Back left S
     back_skip fails = record {
+      front = front_left;
       sound = b.sound;
       end = b.end;
-      closed = λ j le lt lv s. ⊎_elim (λ e. absurd (both_ways (S (arc arcs (i - 1)).target && live (i - 1)) fails (and_from (S (arc arcs (i - 1)).target) (live (i - 1)) (ap (λ x. S (arc arcs x).target) (sym e) ∙ s) (ap live (sym e) ∙ lv)))) (λ ne. b.closed j (omega arith) lt lv s) (cases_eq j (i - 1));
-    }
-
-    pub back_more : (k : ℕ) (T : ℕ → Bool) → Layered k nodes arcs → i ≤ length arcs → ((n : ℕ) → T n ≡ (eqb n (arc arcs (i - 1)).node || S n))
-        → (S (arc arcs (i - 1)).target && live (i - 1)) ≡ true → Back (i - 1) T
-    back_more k T l within more both = record {
-      sound = λ n t. ⊎_elim (λ e. subst (Ends nodes arcs masks) (sym (eqb-true n (arc arcs (i - 1)).node e)) through) (b.sound n) (or_cases (eqb n (arc arcs (i - 1)).node) (S n) (sym (more n) ∙ t));
-      end = stays (length nodes - 1) b.end;
-      closed = λ j le lt lj t. ⊎_elim (λ e. added (arc arcs j).node (ap (λ x. (arc arcs x).node) e)) (λ ne. stays (arc arcs j).node (b.closed j (omega arith) lt lj (before_it j (omega arith) lt t))) (cases_eq j (i - 1));
+      closed = λ j le lt lv s. ⊎_elim (λ e. absurd (passed j e lv s)) (λ ne. b.closed j (omega (arith, one_less)) lt lv s) (cases_eq j (length left));
     }
       where
-        through : Ends nodes arcs masks (arc arcs (i - 1)).node
+        passed : (j : ℕ) → j ≡ length left → live j ≡ true → S (arc arcs j).target ≡ true → ⊥
+        passed j e lv s =
+            let h : arc arcs j ≡ a = ap (arc arcs) e ∙ sym here in
+            both_ways (S (arc arcs j).target && live j) (rw h fails) (and_from (S (arc arcs j).target) (live j) s lv)
+
+    pub back_more : (k : ℕ) (T : ℕ → Bool) → Layered k nodes arcs → ((n : ℕ) → T n ≡ (eqb n a.node || S n))
+        → (S a.target && arc_stands nodes masks a) ≡ true → Back left T
+    back_more k T l more both = record {
+      front = front_left;
+      sound = λ n t. ⊎_elim (λ e. subst (Ends nodes arcs masks) (sym e) through) (b.sound n) (was a.node S T more n t);
+      end = stays a.node S T more (length nodes - 1) b.end;
+      closed = λ j le lt lj t. ⊎_elim (λ e. added a.node S T more _ (ap (λ x. x.node) (ap (arc arcs) e ∙ sym here))) (λ ne. stays a.node S T more _ (b.closed j (omega (arith, one_less)) lt lj (before_it j le lt t))) (cases_eq j (length left));
+    }
+      where
+        through : Ends nodes arcs masks a.node
         through =
-            let s = (and_parts (S (arc arcs (i - 1)).target) (live (i - 1)) both).0 in
-            let lv = (and_parts (S (arc arcs (i - 1)).target) (live (i - 1)) both).1 in
-            let r = b.sound (arc arcs (i - 1)).target s in ((arc arcs (i - 1)).choice ∷ r.0, ((arc arcs (i - 1)).target, step_at nodes arcs masks (i - 1) (omega arith) lv, r.1))
-
-        stays : (n : ℕ) → S n ≡ true → T n ≡ true
-        stays n e = more n ∙ or_right (eqb n (arc arcs (i - 1)).node) (S n) e
-
-        added : (n : ℕ) → n ≡ (arc arcs (i - 1)).node → T n ≡ true
-        added n e = more n ∙ or_left (eqb n (arc arcs (i - 1)).node) (S n) (eq-eqb n (arc arcs (i - 1)).node e)
+            let p = and_parts (S a.target) (arc_stands nodes masks a) both in
+            let r = b.sound a.target p.0 in
+            (a.choice ∷ r.0, (a.target, rw here (step_at nodes arcs masks (length left) within (rw here at p.1)), r.1))
 
         -- the target of an arc that was swept is not the node that is added
-        before_it : (j : ℕ) → i ≤ j → j < length arcs → T (arc arcs j).target ≡ true → S (arc arcs j).target ≡ true
+        before_it : (j : ℕ) → length left ≤ j → j < length arcs → T (arc arcs j).target ≡ true → S (arc arcs j).target ≡ true
         before_it j le lt t =
-            ⊎_elim (λ e. absurd (omega (arith, eqb-true (arc arcs j).target (arc arcs (i - 1)).node e, target_later k nodes arcs l j lt, nodes_rise k nodes arcs l (i - 1) j (omega arith) lt)))
-            (λ r. r) (or_cases (eqb (arc arcs j).target (arc arcs (i - 1)).node) (S (arc arcs j).target) (sym (more (arc arcs j).target) ∙ t))
+            ⊎_elim (λ e. absurd (omega (arith, e, ap (λ x. x.node) here, target_later k nodes arcs l j lt, nodes_rise k nodes arcs l (length left) j le lt))) (λ r. r)
+            (was a.node S T more (arc arcs j).target t)
 
-  pub back_all : (i : ℕ) (S : ℕ → Bool) → i ≤ 0 → Back i S → (n : ℕ) → Decides (S n) (Ends nodes arcs masks n)
-  back_all i S z b n = (b.sound n, (λ w. whole w.0 n w.1))
+  pub back_all : (left : List Arc) (S : ℕ → Bool) → length left ≡ 0 → Back left S → (n : ℕ) → Decides (S n) (Ends nodes arcs masks n)
+  back_all left S z b n = (b.sound n, (λ w. whole w.0 n w.1))
     where
       whole : (t : Tuple) (n : ℕ) → Way nodes arcs masks n (length nodes - 1) t → S n ≡ true
       whole [] n w = ap S w ∙ b.end
       whole (v ∷ t) n w =
           let s = w.1 in
-          ap S (sym s.from) ∙ b.closed s.number (omega arith) s.there (step_live n v w.0 s) (ap S s.to ∙ whole t w.0 w.2)
+          ap S (sym s.from) ∙ b.closed s.number (omega (arith, z)) s.there (step_live n v w.0 s) (ap S s.to ∙ whole t w.0 w.2)
 
   -- an arc leads on from a node that is reached, and its target reaches the end
   abbrev pub passes : (ℕ → Bool) → (ℕ → Bool) → ℕ → Bool
@@ -97,7 +125,7 @@ module _ (nodes : List ℕ) (arcs : List Arc) (masks : List ℕ) where
 
   pub fore_none : (S T E : ℕ → Bool) → ((n : ℕ) → S n ≡ false) → ((n : ℕ) → T n ≡ (eqb n 0 || S n)) → Fore 0 T E (replicate max_arity 0)
   fore_none S T E none more = record {
-    reached = λ n t. ⊎_elim (λ e. ([], sym (eqb-true n 0 e))) (λ s. absurd (both_ways (S n) (none n) s)) (or_cases (eqb n 0) (S n) (sym (more n) ∙ t));
+    reached = λ n t. ⊎_elim (λ e. ([], sym e)) (λ s. absurd (both_ways (S n) (none n) s)) (was 0 S T more n t);
     start = more 0;
     closed = λ j a b. absurd (omega arith);
     long = refl;
@@ -146,17 +174,10 @@ module _ (nodes : List ℕ) (arcs : List Arc) (masks : List ℕ) where
           elsewhere : (p ≡ q → ⊥) → stands (get_or shows p 0) u ≡ (stands (get_or shown p 0) u || eqb p q && eqb u v)
           elsewhere ne =
               ap (λ m. stands m u) (get_or-set_other shown q p (bit_or (get_or shown q 0) ((1 * 2 ^ v) % 2 ^ 64)) 0 ne)
-              ∙ sym (ap (λ b. stands (get_or shown p 0) u || b && eqb u v) (ne_eqb p q ne) ∙ or_none (stands (get_or shown p 0) u))
-            where
-              or_none : (b : Bool) → (b || false) ≡ b
-              or_none true = refl
-              or_none false = refl
+              ∙ sym (ap (λ b. stands (get_or shown p 0) u || b && eqb u v) (ne_eqb p q ne) ∙ or-false (stands (get_or shown p 0) u))
 
       parts : (S (arc arcs i).node ≡ true) × (E (arc arcs i).target ≡ true) × (live i ≡ true)
-      parts =
-          let a = and_parts (S (arc arcs i).node) (E (arc arcs i).target && live i) passed in
-          let b = and_parts (E (arc arcs i).target) (live i) a.1 in
-          (a.0, b.0, b.1)
+      parts = search (rules, tests)
 
       stepped : Step nodes arcs masks (arc arcs i).node v (arc arcs i).target
       stepped = step_at nodes arcs masks i within parts.2
@@ -176,27 +197,21 @@ module _ (nodes : List ℕ) (arcs : List Arc) (masks : List ℕ) where
       passed_before j le p =
           let a = and_parts (T (arc arcs j).node) (E (arc arcs j).target && live j) p in
           let s : S (arc arcs j).node ≡ true =
-          ⊎_elim (λ e. absurd (omega (arith, eqb-true (arc arcs j).node (arc arcs i).target e, target_later k nodes arcs l i within, nodes_rise k nodes arcs l j i le within)))
-          (λ r. r) (or_cases (eqb (arc arcs j).node (arc arcs i).target) (S (arc arcs j).node) (sym (more (arc arcs j).node) ∙ a.0))
+          ⊎_elim (λ e. absurd (omega (arith, e, target_later k nodes arcs l i within, nodes_rise k nodes arcs l j i le within))) (λ r. r)
+          (was (arc arcs i).target S T more (arc arcs j).node a.0)
           in
           and_from (S (arc arcs j).node) (E (arc arcs j).target && live j) s a.1
 
       pub fore_more : Fore (i + 1) T E shows
       fore_more = record {
-        reached = λ n t. ⊎_elim (λ e. subst (λ x. (u : Tuple) × Way nodes arcs masks 0 x u) (sym (eqb-true n (arc arcs i).target e)) came) (f.reached n) (or_cases (eqb n (arc arcs i).target) (S n) (sym (more n) ∙ t));
-        start = stays 0 f.start;
-        closed = λ j a b p. ⊎_elim (λ e. added (arc arcs j).target (ap (λ x. (arc arcs x).target) e)) (λ ne. stays (arc arcs j).target (f.closed j (omega arith) b (passed_before j (omega arith) p))) (cases_eq j i);
+        reached = λ n t. ⊎_elim (λ e. subst (λ x. (u : Tuple) × Way nodes arcs masks 0 x u) (sym e) came) (f.reached n) (was (arc arcs i).target S T more n t);
+        start = stays (arc arcs i).target S T more 0 f.start;
+        closed = λ j a b p. ⊎_elim (λ e. added (arc arcs i).target S T more _ (ap (λ x. (arc arcs x).target) e)) (λ ne. stays (arc arcs i).target S T more _ (f.closed j (omega arith) b (passed_before j (omega arith) p))) (cases_eq j i);
         long = length-set shown q (bit_or (get_or shown q 0) ((1 * 2 ^ v) % 2 ^ 64)) ∙ f.long;
         sound = λ p u s. ⊎_elim (f.sound p u) (λ e. let b = and_parts (eqb p q) (eqb u v) e in moved p u (eqb-true p q b.0) (eqb-true u v b.1)) (or_cases (stands (get_or shown p 0) u) (eqb p q && eqb u v) (sym (shows_at p u) ∙ s));
         whole = λ j a b p. ⊎_elim (λ e. shown_now (place nodes (arc arcs j).node) (arc arcs j).choice (ap (λ x. place nodes (arc arcs x).node) e) (ap (λ x. (arc arcs x).choice) e)) (λ ne. shown_still (place nodes (arc arcs j).node) (arc arcs j).choice (f.whole j (omega arith) b (passed_before j (omega arith) p))) (cases_eq j i);
       }
         where
-          stays : (n : ℕ) → S n ≡ true → T n ≡ true
-          stays n e = more n ∙ or_right (eqb n (arc arcs i).target) (S n) e
-
-          added : (n : ℕ) → n ≡ (arc arcs i).target → T n ≡ true
-          added n e = more n ∙ or_left (eqb n (arc arcs i).target) (S n) (eq-eqb n (arc arcs i).target e)
-
           moved : (p u : ℕ) → p ≡ q → u ≡ v → Through nodes arcs masks p u
           moved p u e e' = subst (λ x. Through nodes arcs masks x u) (sym e) (subst (Through nodes arcs masks q) (sym e') through)
 
@@ -205,10 +220,6 @@ module _ (nodes : List ℕ) (arcs : List Arc) (masks : List ℕ) where
 
           shown_still : (p u : ℕ) → stands (get_or shown p 0) u ≡ true → stands (get_or shows p 0) u ≡ true
           shown_still p u s = shows_at p u ∙ or_left (stands (get_or shown p 0) u) (eqb p q && eqb u v) s
-
-  -- the same sets and masks under other names
-  pub fore_same : (i : ℕ) (E : ℕ → Bool) (words words' shown shown' : List ℕ) → words ≡ words' → shown ≡ shown' → Fore i (member words') E shown' → Fore i (member words) E shown
-  fore_same i E words words' shown shown' e e' f = subst (λ x. Fore i (member x) E shown) (sym e) (subst (Fore i (member words') E) (sym e') f)
 
   -- at the end every choice on a path is shown
   pub fore_all : (i : ℕ) (S E : ℕ → Bool) (shown : List ℕ) → length arcs ≤ i → ((n : ℕ) → Decides (E n) (Ends nodes arcs masks n)) → Fore i S E shown

@@ -1,24 +1,15 @@
 -- Paths along standing choices: how they join, which places they pass, and that they are the paths of the meaning.
-use Rattle.std.proofs.Common.{◌≡◌, ℕ, zero, suc, ◌+◌, ◌-◌, ◌<◌, Bool, true, ◌&&◌, eqb, List, [], ◌∷◌, ◌++◌, length, get_or, sym, refl, ap, ◌∙◌, subst, ⊎_elim, arith}
-use Rattle.std.proofs.lemmas.Bool.{and_parts, and_from, or_cases, or_left, or_right, eqb-true, eq-eqb, false≢true}
+use Rattle.std.proofs.Common.{◌≡◌, ℕ, zero, suc, ◌+◌, ◌-◌, ◌<◌, true, ◌&&◌, eqb, List, [], ◌∷◌, ◌++◌, length, get_or, sym, refl, ap, ◌∙◌, subst, arith}
+use Rattle.std.proofs.lemmas.Bool.{and_parts, and_from, eqb-true, eq-eqb}
+use Rattle.std.proofs.lemmas.List.{get_or_default}
+use Rattle.std.proofs.lemmas.List.Folds.{list_any_at, Any-from_list_any}
 use Rattle.rows.specs.Choices.{stands}
 use Rattle.banks.specs.Rules.{Tuple}
 use Rattle.diagrams.specs.declared.diagram.Arc.{Arc}
-use Rattle.diagrams.specs.Diagrams.{some, path}
+use Rattle.diagrams.specs.Diagrams.{path}
 use Rattle.diagrams.specs.Layers.{place, arc, Layered}
 use Rattle.diagrams.specs.Ways.{Step, Way, Through}
 use Rattle.diagrams.proofs.Layering.{placed_at}
-
-module _ {X : Type 0} (test : X → Bool) (d : X) where
-  some_found : (xs : List X) → some test xs ≡ true → (i : ℕ) × (i < length xs) × (test (get_or xs i d) ≡ true)
-  some_found [] e = absurd (false≢true e)
-  some_found (x ∷ xs) e =
-      ⊎_elim (λ t. (0, omega arith, t)) (λ t. let r = some_found xs t in (suc r.0, omega (arith, r.1), r.2)) (or_cases (test x) (some test xs) e)
-
-  some_at : (xs : List X) (i : ℕ) → i < length xs → test (get_or xs i d) ≡ true → some test xs ≡ true
-  some_at [] i h t = absurd (omega arith)
-  some_at (x ∷ xs) zero h t = or_left (test x) (some test xs) t
-  some_at (x ∷ xs) (suc i) h t = or_right (test x) (some test xs) (some_at xs i (omega arith) t)
 
 module _ (nodes : List ℕ) (arcs : List Arc) (masks : List ℕ) where
   pub way_joined : (t u : Tuple) (n m o : ℕ) → Way nodes arcs masks n m t → Way nodes arcs masks m o u → Way nodes arcs masks n o (t ++ u)
@@ -37,7 +28,7 @@ module _ (nodes : List ℕ) (arcs : List Arc) (masks : List ℕ) where
   way_path (v ∷ t) n last w =
       let s = w.1 in
       let a = arc arcs s.number in
-      some_at (λ b. eqb b.node n && eqb b.choice v && path arcs last b.target t) _ arcs s.number s.there
+      list_any_at (λ b. eqb b.node n && eqb b.choice v && path arcs last b.target t) arcs s.number _ s.there
       (and_from (eqb a.node n && eqb a.choice v) (path arcs last a.target t)
       (and_from (eqb a.node n) (eqb a.choice v) (eq-eqb a.node n s.from) (eq-eqb a.choice v s.by))
       (ap (λ m. path arcs last m t) s.to ∙ way_path t w.0 last w.2))
@@ -63,17 +54,18 @@ module _ (nodes : List ℕ) (arcs : List Arc) (masks : List ℕ) where
     unfolding path
     path_way [] n last e stood = eqb-true n last e
     path_way (v ∷ t) n last e stood =
-        let f = some_found (λ b. eqb b.node n && eqb b.choice v && path arcs last b.target t) (record { node = 0; choice = 0; target = 0 }) arcs e in
-        let a = arc arcs f.0 in
-        let p = and_parts (eqb a.node n && eqb a.choice v) (path arcs last a.target t) f.2 in
+        let f = Any-from_list_any (λ b. eqb b.node n && eqb b.choice v && path arcs last b.target t) arcs e in
+        let a = f.1 in
+        let p = and_parts (eqb a.node n && eqb a.choice v) (path arcs last a.target t) f.4 in
         let q = and_parts (eqb a.node n) (eqb a.choice v) p.0 in
+        let it : arc arcs f.0 ≡ a = get_or_default arcs f.0 _ a f.2 ∙ f.3 in
         let here : place nodes n + 0 ≡ place nodes n = omega arith in
         let s : Step nodes arcs masks n v a.target = record {
           number = f.0;
-          there = f.1;
-          from = eqb-true a.node n q.0;
-          by = eqb-true a.choice v q.1;
-          to = refl;
+          there = f.2;
+          from = ap (λ b. b.node) it ∙ eqb-true a.node n q.0;
+          by = ap (λ b. b.choice) it ∙ eqb-true a.choice v q.1;
+          to = ap (λ b. b.target) it;
           standing = subst (λ x. stands (get_or masks x 0) v ≡ true) here (stood 0 (omega arith));
         } in (
           a.target,

@@ -1,6 +1,6 @@
 -- Which diagrams a bank may hold.
-use Rattle.std.specs.Prelude.{◌≡◌, ℕ, ◌+◌, ◌<◌, Bool, true, false, not, ◌&&◌, List, [], ◌∷◌, ◌++◌, map, length, Some, None, Option, MatchOption, nat_le}
-use Rattle.std.specs.List.{range_with_len}
+use Rattle.std.specs.Prelude.{◌≡◌, ℕ, ◌+◌, Bool, not, ◌&&◌, List, [], ◌∷◌, ◌++◌, map, length, Option, MatchOption, nat_le}
+use Rattle.std.specs.List.{range_with_len, find}
 use Rattle.rows.specs.Refusals.{Refusal, fits, first}
 use Rattle.banks.specs.Faults.{at_spot, bank_refusal}
 use Rattle.banks.specs.Names.{may_name}
@@ -35,9 +35,8 @@ abbrev pub reasons : (ℕ → Bool) → (ℕ → Refusal) → ℕ → List (Opti
 reasons test says n = map (λ i. fits (not (test i)) (says i)) (range_with_len 0 n)
 
 -- The first number below n that fails a test, if any.
-abbrev pub FirstFailing : (ℕ → Bool) → ℕ → Option ℕ → Type 0
-FirstFailing test n None = (i : ℕ) → i < n → test i ≡ true
-FirstFailing test n (Some i) = (i < n) × (test i ≡ false) × ((j : ℕ) → j < i → test j ≡ true)
+abbrev pub first_failing : (ℕ → Bool) → ℕ → Option ℕ
+first_failing test n = find (λ i. not (test i)) (range_with_len 0 n)
 
 -- The reasons to refuse the nodes and the arcs of a diagram of arity k: all nodes in order, then all arcs. They start at these indices of
 -- their pools.

@@ -1,5 +1,6 @@
 -- What a layered decision diagram means.
-use Rattle.std.specs.Prelude.{ℕ, ◌-◌, Bool, false, ◌&&◌, ◌||◌, List, [], ◌∷◌, take, drop, ◌==◌}
+use Rattle.std.specs.Prelude.{ℕ, ◌-◌, Bool, ◌&&◌, List, [], ◌∷◌, take, drop, ◌==◌}
+use Rattle.std.specs.List.{list_any}
 use Rattle.banks.specs.Rules.{Rule, Tuple}
 use Rattle.diagrams.specs.declared.diagram.Arc.{Arc}
 use Rattle.diagrams.specs.declared.diagram.Diagram.{Diagram}
@@ -9,16 +10,11 @@ use Rattle.diagrams.specs.declared.diagram.Span.{Span}
 abbrev pub part : {X : Type 0} → List X → Span → List X
 part pool s = take s.count (drop s.start pool)
 
--- Some element of a list passes a test.
-abbrev pub some : {X : Type 0} → (X → Bool) → List X → Bool
-some test [] = false
-some test (x ∷ xs) = test x || some test xs
-
 -- Some path from the node n to the node `last` has the choices t, in order: there is an arc out of n by the first choice, and from its
 -- target a path with the others. With no choice left, n is the last node.
 unfoldable pub path : List Arc → ℕ → ℕ → Tuple → Bool
 path arcs last n [] = n == last
-path arcs last n (v ∷ t) = some (λ a. (a.node == n) && a.choice == v && path arcs last a.target t) arcs
+path arcs last n (v ∷ t) = list_any (λ a. (a.node == n) && a.choice == v && path arcs last a.target t) arcs
 
 -- The rule that names these rows, and permits the choices along each path from node 0 to the last of so many nodes.
 abbrev pub rule : List ℕ → ℕ → List Arc → Rule

@@ -1,9 +1,13 @@
 -- Paths along standing choices.
-use Rattle.std.specs.Prelude.{◌≡◌, ℕ, ◌-◌, ◌<◌, true, List, [], ◌∷◌, length, slice_index}
+use Rattle.std.specs.Prelude.{◌≡◌, ℕ, ◌-◌, ◌<◌, Bool, true, List, [], ◌∷◌, length, slice_index}
 use Rattle.rows.specs.Choices.{stands}
 use Rattle.banks.specs.Rules.{Tuple}
 use Rattle.diagrams.specs.declared.diagram.Arc.{Arc}
 use Rattle.diagrams.specs.Layers.{place, arc}
+
+-- The choice of an arc stands at the place of its node.
+abbrev pub arc_stands : List ℕ → List ℕ → Arc → Bool
+arc_stands nodes masks a = stands (slice_index masks (place nodes a.node)) a.choice
 
 -- The nodes and arcs of a diagram, and the mask of the standing choices of each place.
 module _ (nodes : List ℕ) (arcs : List Arc) (masks : List ℕ) where

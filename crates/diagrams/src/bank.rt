@@ -10,7 +10,7 @@ use crate::diagram::{Arc, Diagram};
 use crate::refusal::DiagramFault;
 use crate::support::supported;
 use banks::bank::Bank;
-use banks::limits::may_hold;
+use banks::checking::check_rules;
 use banks::questions::admit;
 use banks::refusal::{BankError, CallError};
 
@@ -35,18 +35,13 @@ impl<'a> DiagramBank<'a> {
     ) -> Result<(), BankError<DiagramFault>>
         ensures { Answer (bank_says fault_says) (refusal width places.now arcs.now diagrams.now) (Unit {0}) (λ _. Unit {0}) result }
     {
-        if !may_hold(width, diagrams.len()) {
-            return Err(BankError::Size);
-        }
-        for (number, diagram) in diagrams.iter().enumerate() {
-            if let Err(fault) = diagram.check(width, places, arcs) {
-                return Err(fault.of_rule(number));
-            }
-        }
-        Ok(())
+        check_rules(width, diagrams, |diagram| {
+            diagram.check(width, places, arcs)
+        })
     }
 
-    // The bank of a width, pools and diagrams, or, where the check refuses, one of width 1 and no rules.
+    // The bank of a width, pools and diagrams, or, where the check refuses, one of width 1 and no rules. A making
+    // cannot refuse, by the rules of the engine; and the pools are lent one by one.
     pub fn make(
         width: usize,
         places: &'a [u8],
@@ -72,21 +67,14 @@ impl<'a> DiagramBank<'a> {
         }
     }
 
-    // How many diagrams the bank has, each of which is a rule.
-    fn len(&self) -> usize
-        ensures { result ≡ length (map (meaning self.now.arcs.now) self.now.diagrams.now) }
-    {
-        self.diagrams.len()
-    }
-
-    // The diagram of a rule number.
+    // The diagram of a rule number. As in the banks of the other kinds, each over its own type.
     fn find(&self, rule: usize) -> Result<Diagram<'a>, CallError>
         ensures { Found self.now.width self.now.places.now self.now.arcs.now self.now.diagrams.now rule result }
     {
-        if rule >= self.len() {
-            return Err(CallError::NoSuchRule);
-        }
-        Ok(self.diagrams[rule])
+        self.diagrams
+            .get(rule)
+            .copied()
+            .ok_or(CallError::NoSuchRule)
     }
 }
 
@@ -102,7 +90,7 @@ impl Bank for DiagramBank<'_> {
     }
 
     fn rule_count(&self) -> usize {
-        self.len()
+        self.diagrams.len()
     }
 
     fn arity(&self, rule: usize) -> Result<usize, CallError> {
@@ -111,11 +99,11 @@ impl Bank for DiagramBank<'_> {
     }
 
     fn row_at(&self, rule: usize, place: usize) -> Result<usize, CallError> {
-        let diagram = self.find(rule)?;
-        if place >= diagram.rows.len() {
-            return Err(CallError::NoSuchPlace);
-        }
-        Ok(diagram.rows[place])
+        self.find(rule)?
+            .rows
+            .get(place)
+            .copied()
+            .ok_or(CallError::NoSuchPlace)
     }
 
     fn support(&self, rule: usize, rows: &[u64], masks: &mut [u64]) -> Result<(), CallError> {

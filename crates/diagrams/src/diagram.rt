@@ -14,7 +14,8 @@ const MAX_NODES: usize = 4096;
 // The most arcs of a diagram.
 const MAX_ARCS: usize = 65535;
 
-// A part of a pool: where it starts, and how many entries it has.
+// A part of a pool: where it starts, and how many entries it has. By numbers, since the nodes and the arcs of all diagrams of a bank lie in
+// two pools, which are lent to the bank.
 #[derive(Clone, Copy, PartialEq, Eq, Debug)]
 pub struct Span {
     pub start: usize,
@@ -22,6 +23,13 @@ pub struct Span {
 }
 
 impl Span {
+    // The part that starts at an index and has so many entries.
+    pub fn new(start: usize, count: usize) -> Span
+        ensures { result ≡ record { start = start; count = count } }
+    {
+        Span { start, count }
+    }
+
     // Whether the part does not pass the end of a pool of a length.
     fn within(&self, length: usize) -> bool
         ensures { result ≡ within length self.now }
@@ -46,6 +54,19 @@ pub struct Arc {
     pub target: u16,
 }
 
+impl Arc {
+    // The arc that leads from a node to a target by a choice.
+    pub fn new(node: u16, choice: u8, target: u16) -> Arc
+        ensures { result ≡ record { node = node; choice = choice; target = target } }
+    {
+        Arc {
+            node,
+            choice,
+            target,
+        }
+    }
+}
+
 // A diagram: the rows that it names, its nodes in the pool of places, and its arcs in the pool of arcs.
 #[derive(Clone, Copy)]
 pub struct Diagram<'a> {
@@ -54,13 +75,12 @@ pub struct Diagram<'a> {
     pub arcs: Span,
 }
 
-impl<'a> Diagram<'a> {
+impl Diagram<'_> {
     // Whether the nodes and the arcs are neither too few nor too many, and lie in their pools.
     fn counts_fit(&self, places: usize, arcs: usize) -> bool
         ensures { result ≡ counts_fit places arcs self.now }
     {
-        2 <= self.nodes.count
-            && self.nodes.count <= MAX_NODES
+        (2..=MAX_NODES).contains(&self.nodes.count)
             && self.arcs.count <= MAX_ARCS
             && self.nodes.within(places)
             && self.arcs.within(arcs)

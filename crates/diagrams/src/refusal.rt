@@ -1,9 +1,7 @@
 // What can be wrong with a diagram.
-ghost use Rattle.std.specs.Prelude.{◌≡◌};
 ghost use Rattle.diagrams.specs.Checks.{fault_says};
 
-use banks::refusal::BankError;
-use rows::refusal::Numbered;
+use banks::refusal::Fault;
 
 // The fault of a diagram.
 #[derive(Clone, Copy, PartialEq, Eq, Debug)]
@@ -18,19 +16,7 @@ pub enum DiagramFault {
     BadArc { spot: usize },
 }
 
-impl DiagramFault {
-    // The refusal of a bank whose rule of a number has this fault.
-    pub(crate) fn of_rule(self, number: usize) -> BankError<DiagramFault>
-        ensures { result ≡ BankError.Rule number self }
-    {
-        BankError::Rule {
-            number,
-            fault: self,
-        }
-    }
-}
-
-impl Numbered for DiagramFault {
+impl Fault for DiagramFault {
     ghost says = { fault_says };
 
     fn number(&self) -> u32 {
@@ -42,16 +28,10 @@ impl Numbered for DiagramFault {
         }
     }
 
-    // The spot.
-    fn value(&self, index: usize) -> Option<usize> {
-        if index > 0 {
-            return None;
-        }
+    fn spot(&self) -> usize {
         match self {
-            DiagramFault::Rows => Some(0),
-            DiagramFault::Counts => Some(0),
-            DiagramFault::BadNode { spot } => Some(*spot),
-            DiagramFault::BadArc { spot } => Some(*spot),
+            DiagramFault::Rows | DiagramFault::Counts => 0,
+            DiagramFault::BadNode { spot } | DiagramFault::BadArc { spot } => *spot,
         }
     }
 }

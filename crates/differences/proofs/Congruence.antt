@@ -1,5 +1,5 @@
 -- A sum and a choice are congruent exactly where they leave the same remainder.
-use Rattle.std.proofs.Common.{◌≡◌, ℕ, suc, ◌+◌, ◌-◌, ◌*◌, ◌/◌, ◌%◌, ◌<◌, ◌≤◌, true, eqb, ◌⊎◌, ℤ, pos, negsuc, ◌+ℤ◌, ◌-ℤ◌, nat_abs, Decides, sym, refl, ap, ◌∙◌, inl, inr, ⊎_elim, add-zero, mul-le-mul_left, div-add-mod', mul-one, arith}
+use Rattle.std.proofs.Common.{◌≡◌, ℕ, suc, ◌+◌, ◌-◌, ◌*◌, ◌/◌, ◌%◌, ◌<◌, ◌≤◌, Bool, eqb, ◌⊎◌, ℤ, pos, negsuc, ◌+ℤ◌, ◌-ℤ◌, nat_abs, Decides, sym, refl, ap, ◌∙◌, inl, inr, ⊎_elim, add-zero, mul-le-mul_left, div-add-mod', mul-one, arith}
 use native.Mathlib.Nat.{add-mod, mul-mod_left, add-mul-mod_self_right, mod-mod, mul-add-mod_self_right}
 use lib.Signed.{le_z}
 use Rattle.std.specs.Int.{int_rem_euclid}
@@ -8,8 +8,7 @@ use Rattle.std.proofs.lemmas.Bool.{and_parts, and_from}
 use Rattle.std.proofs.lemmas.Bool.Decides.{Decides-eqb, Decides-like}
 use Rattle.rows.specs.Choices.{stands}
 use Rattle.differences.specs.Differences.{same, multiple}
-use Rattle.differences.specs.Partners.{Finds, Leaves}
-use Rattle.differences.specs.declared.partner.Seek.TheVariants.{Same}
+use Rattle.differences.specs.Partners.{Finds, Leaves, itself}
 
 -- a step of d keeps the remainder exactly where d is a multiple
 step_keeps : (x d m : ℕ) → d % m ≡ 0 → (x + d) % m ≡ x % m
@@ -66,14 +65,15 @@ congruent_decides m w z h =
 same_nat : (z : ℤ) (u : ℕ) → Decides (same z (pos u)) (z ≡ pos u)
 same_nat z u = ((λ e. let p = and_parts (le_z z (pos u)) (le_z (pos u) z) e in grind (arith, ints)), (λ e. and_from (le_z z (pos u)) (le_z (pos u) z) (grind (arith, ints)) (grind (arith, ints))))
 
--- a remainder among those of a mask's choices, and a congruent choice
-module _ (mask m left : ℕ) (z : ℤ) (h : 0 < m) (gathered : (v : ℕ) → Decides (stands left v) (Leaves mask m v)) where
-  pub congruent_found : Finds Same (int_rem_euclid z (pos m)) left → (w : ℕ) × (stands mask w ≡ true) × (multiple m (z -ℤ pos w) ≡ true)
-  congruent_found f =
-      let l = (gathered f.0).0 f.1 in
-      let rem = (same_nat (int_rem_euclid z (pos m)) f.0).0 f.2 in
-      (l.0, l.1, (congruent_decides m l.0 z h).1 (rem ∙ ap pos (sym l.2)))
+-- the remainder of a sum is among those of a mask's choices exactly where one of them is congruent to the sum
+pub congruent_found : (mask m left : ℕ) (z r : ℤ) (b : Bool) → 0 < m → ((v : ℕ) → Decides (stands left v) (Leaves mask m v)) → r ≡ int_rem_euclid z (pos m)
+    → Decides b (Finds (itself r) left) → Decides b (Finds (λ w. multiple m (z -ℤ pos w)) mask)
+congruent_found mask m left z r b h gathered is d = Decides-like b there back d
+  where
+    there : Finds (itself r) left → Finds (λ w. multiple m (z -ℤ pos w)) mask
+    there f =
+        let l = (gathered f.0).0 f.1 in
+        (l.0, l.1, (congruent_decides m l.0 z h).1 (sym is ∙ (same_nat r f.0).0 f.2 ∙ ap pos (sym l.2)))
 
-  pub congruent_finds : (w : ℕ) × (stands mask w ≡ true) × (multiple m (z -ℤ pos w) ≡ true) → Finds Same (int_rem_euclid z (pos m)) left
-  congruent_finds c =
-      (c.0 % m, (gathered (c.0 % m)).1 (c.0, c.1, refl), (same_nat (int_rem_euclid z (pos m)) (c.0 % m)).1 ((congruent_decides m c.0 z h).0 c.2))
+    back : Finds (λ w. multiple m (z -ℤ pos w)) mask → Finds (itself r) left
+    back c = (c.0 % m, (gathered (c.0 % m)).1 (c.0, c.1, refl), (same_nat r (c.0 % m)).1 (is ∙ (congruent_decides m c.0 z h).0 c.2))

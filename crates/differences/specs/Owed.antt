@@ -6,6 +6,7 @@ use Rattle.std.proofs.lemmas.List.{length-map}
 use Rattle.std.proofs.lemmas.Bool.{not-false}
 use Rattle.rows.specs.Refusals.{fits}
 use Rattle.rows.proofs.Refusing.{first_none, fits_none}
+use Rattle.banks.specs.Calls.{rule_at}
 use Rattle.banks.specs.Faults.{at_spot}
 use Rattle.banks.specs.Lawful.{Lawful, may_hold}
 use Rattle.banks.specs.Names.{may_name}
@@ -26,6 +27,11 @@ fine_from w d e =
     let p = first_none first' (second' ∷ []) e in
     let q = first_none second' [] p.1 in
     record { names = not-false _ (fits_none _ _ p.0); bounds = not-false _ (fits_none _ _ q.0) }
+
+-- a difference that a bank of width w with the differences ds has by a number: it means the rule of that number, and has no fault
+pub record Found (w : ℕ) (ds : List Difference) (k : ℕ) (d : Difference) : Type 0 where
+  pub means : rule_at (map meaning ds) k ≡ meaning d
+  pub fine : Fine w d
 
 -- a bank has none with a fault, so it is lawful
 module _ (w : ℕ) (ds : List Difference) (sound : is_some (refusal w ds) ≡ false) where

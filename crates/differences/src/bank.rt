@@ -1,16 +1,17 @@
 // The bank of difference rules.
-ghost use Rattle.std.specs.Prelude.{◌≡◌, false, map, is_some};
-ghost use Rattle.rows.specs.Refusals.{Answer};
+ghost use Rattle.std.specs.Prelude.{◌≡◌, false, [], ◌∷◌, map, is_some};
+ghost use Rattle.rows.specs.Refusals.{Answer, first};
+ghost use Rattle.banks.specs.Calls.{call_says, no_such_rule};
 ghost use Rattle.banks.specs.Faults.{bank_says};
 ghost use Rattle.differences.specs.Checks.{refusal, fault_says, Made};
 ghost use Rattle.differences.specs.Differences.{meaning};
-ghost use Rattle.differences.specs.Owed.{lawful_bank};
+ghost use Rattle.differences.specs.Owed.{Found, lawful_bank};
 
 use crate::difference::Difference;
 use crate::refusal::DifferenceFault;
 use crate::support::both_sides;
 use banks::bank::Bank;
-use banks::limits::may_hold;
+use banks::checking::check_rules;
 use banks::questions::admit;
 use banks::refusal::{BankError, CallError};
 
@@ -27,18 +28,11 @@ impl<'a> DifferenceBank<'a> {
     pub fn check(width: usize, differences: &[Difference]) -> Result<(), BankError<DifferenceFault>>
         ensures { Answer (bank_says fault_says) (refusal width differences.now) (Unit {0}) (λ _. Unit {0}) result }
     {
-        if !may_hold(width, differences.len()) {
-            return Err(BankError::Size);
-        }
-        for (number, difference) in differences.iter().enumerate() {
-            if let Err(fault) = difference.check(width) {
-                return Err(BankError::Rule { number, fault });
-            }
-        }
-        Ok(())
+        check_rules(width, differences, |difference| difference.check(width))
     }
 
-    // The bank of a width and differences, or, where the check refuses, one of width 1 and no rules.
+    // The bank of a width and differences, or, where the check refuses, one of width 1 and no rules. A making cannot
+    // refuse, by the rules of the engine.
     pub fn make(width: usize, differences: &'a [Difference]) -> DifferenceBank<'a>
         ensures { Made width differences.now result.width (map meaning result.differences.now) }
     {
@@ -50,6 +44,16 @@ impl<'a> DifferenceBank<'a> {
                 differences: &[],
             }
         }
+    }
+
+    // The difference of a number. As in the banks of the other kinds, each over its own type.
+    fn find(&self, rule: usize) -> Result<Difference, CallError>
+        ensures { Answer call_says (first (no_such_rule (map meaning self.now.differences.now) rule ∷ [])) (Unit {0}) (λ d. Found self.now.width self.now.differences.now rule d) result }
+    {
+        self.differences
+            .get(rule)
+            .copied()
+            .ok_or(CallError::NoSuchRule)
     }
 }
 
@@ -69,35 +73,20 @@ impl Bank for DifferenceBank<'_> {
     }
 
     fn arity(&self, rule: usize) -> Result<usize, CallError> {
-        if rule >= self.differences.len() {
-            return Err(CallError::NoSuchRule);
-        }
+        self.find(rule)?;
         Ok(2)
     }
 
     fn row_at(&self, rule: usize, place: usize) -> Result<usize, CallError> {
-        if rule >= self.differences.len() {
-            return Err(CallError::NoSuchRule);
-        }
-        let difference = self.differences[rule];
-        match place {
-            0 => Ok(difference.x),
-            1 => Ok(difference.y),
-            _ => Err(CallError::NoSuchPlace),
-        }
+        let rows = self.find(rule)?.rows();
+        rows.get(place).copied().ok_or(CallError::NoSuchPlace)
     }
 
     fn support(&self, rule: usize, rows: &[u64], masks: &mut [u64]) -> Result<(), CallError> {
-        if rule >= self.differences.len() {
-            return Err(CallError::NoSuchRule);
-        }
+        let difference = self.find(rule)?;
         admit(self.width, 2, rows, masks)?;
-        let difference = self.differences[rule];
-        let xs = rows[difference.x];
-        let ys = rows[difference.y];
-        let (of_x, of_y) = both_sides(difference, xs, ys);
-        masks[0] = of_x;
-        masks[1] = of_y;
+        let sides = both_sides(difference, rows[difference.x], rows[difference.y]);
+        masks[..2].copy_from_slice(&sides);
         Ok(())
     }
 }

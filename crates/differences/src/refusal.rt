@@ -1,7 +1,7 @@
 // What can be wrong with a difference.
 ghost use Rattle.differences.specs.Checks.{fault_says};
 
-use rows::refusal::Numbered;
+use banks::refusal::Fault;
 
 // The fault of a difference.
 #[derive(Clone, Copy, PartialEq, Eq, Debug)]
@@ -12,7 +12,7 @@ pub enum DifferenceFault {
     Bounds,
 }
 
-impl Numbered for DifferenceFault {
+impl Fault for DifferenceFault {
     ghost says = { fault_says };
 
     fn number(&self) -> u32 {
@@ -22,8 +22,7 @@ impl Numbered for DifferenceFault {
         }
     }
 
-    // The spot, which is 0.
-    fn value(&self, index: usize) -> Option<usize> {
-        if index == 0 { Some(0) } else { None }
+    fn spot(&self) -> usize {
+        0
     }
 }

@@ -1,52 +1,48 @@
-// The choices of one row of a difference that have a partner in the other.
-ghost use Rattle.std.specs.Prelude.{◌≡◌, ℕ, true};
-ghost use Rattle.rows.specs.Choices.{stands, Kept};
-ghost use Rattle.differences.specs.Checks.{in_bounds, modulus_fits};
+// The choices of the rows of a difference that have a partner in the other row.
+ghost use Rattle.std.specs.Prelude.{◌≡◌, true, slice_index};
+ghost use Rattle.rows.specs.Choices.{Kept};
+ghost use Rattle.differences.specs.Checks.{in_bounds};
 ghost use Rattle.differences.specs.Differences.{relates};
-ghost use Rattle.differences.specs.Partners.{HasPartner};
+ghost use Rattle.differences.specs.Partners.{Finds};
 
 use crate::difference::{Difference, Relation};
-use crate::partner::{Partner, Residue, Seek, remainders};
+use crate::partner::{has, has_another, has_at_least, has_at_most, remainders};
 use rows::walk::keep;
 
-// The choices of one row with a partner among others, at the sum of the choice and a shift.
-fn partnered(own: u64, others: u64, shift: i32, relation: Relation, bound: Seek) -> u64
-    requires { modulus_fits relation ≡ true }
-    ensures { Kept (HasPartner relation bound shift others) own result }
-{
-    let seek = match relation {
-        Relation::Equal => Seek::Same,
-        Relation::Unequal => Seek::Another,
-        Relation::AtMost => bound,
-        Relation::Congruent { modulus } => {
-            let left = remainders(others, modulus);
-            return keep(
-                own,
-                &Residue {
-                    left,
-                    shift,
-                    modulus,
-                },
-            );
-        }
-    };
-    keep(
-        own,
-        &Partner {
-            others,
-            shift,
-            seek,
-        },
-    )
-}
-
-// The choices x of the first row and the choices y of the second that relate to some choice of the other.
-pub(crate) fn both_sides(difference: Difference, xs: u64, ys: u64) -> (u64, u64)
+// The choices x of the first row and the choices y of the second that relate to some choice of the other, by place.
+pub(crate) fn both_sides(difference: Difference, xs: u64, ys: u64) -> [u64; 2]
     requires { in_bounds difference ≡ true }
-    ensures { (Kept (λ x. (y : ℕ) × (stands ys y ≡ true) × (relates difference.relation difference.offset x y ≡ true)) xs result.0) × (Kept (λ y. (x : ℕ) × (stands xs x ≡ true) × (relates difference.relation difference.offset x y ≡ true)) ys result.1) }
+    ensures of_x { Kept (λ x. Finds (λ y. relates difference.relation difference.offset x y) ys) xs (slice_index result 0) }
+    ensures of_y { Kept (λ y. Finds (λ x. relates difference.relation difference.offset x y) xs) ys (slice_index result 1) }
 {
-    let offset = difference.offset;
-    let of_x = partnered(xs, ys, offset, difference.relation, Seek::AtLeast);
-    let of_y = partnered(ys, xs, -offset, difference.relation, Seek::AtMost);
-    (of_x, of_y)
+    let offset = i64::from(difference.offset);
+    match difference.relation {
+        Relation::Equal => [
+            keep(xs, |x| has(ys, i64::from(x) + offset)),
+            keep(ys, |y| has(xs, i64::from(y) - offset)),
+        ],
+        Relation::Unequal => [
+            keep(xs, |x| has_another(ys, i64::from(x) + offset)),
+            keep(ys, |y| has_another(xs, i64::from(y) - offset)),
+        ],
+        Relation::AtMost => [
+            keep(xs, |x| has_at_least(ys, i64::from(x) + offset)),
+            keep(ys, |y| has_at_most(xs, i64::from(y) - offset)),
+        ],
+        Relation::Congruent { modulus } => {
+            let of_xs = remainders(xs, modulus);
+            let of_ys = remainders(ys, modulus);
+            let modulus = i64::from(modulus);
+            [
+                keep(
+                    xs,
+                    |x| has(of_ys, (i64::from(x) + offset).rem_euclid(modulus)),
+                ),
+                keep(
+                    ys,
+                    |y| has(of_xs, (i64::from(y) - offset).rem_euclid(modulus)),
+                ),
+            ]
+        }
+    }
 }

@@ -1,11 +1,11 @@
 -- The loop that adds a line to the choices found: done at the places so far, and the others as they were.
-use Rattle.std.proofs.Common.{◌≡◌, ℕ, ◌+◌, ◌<◌, ◌≤◌, true, ◌||◌, ◌⊎◌, List, length, get_or, set, Decides, sym, refl, ap, ◌∙◌, subst, inl, inr, ⊎_elim, arith}
+use Rattle.std.proofs.Common.{◌≡◌, ℕ, ◌+◌, ◌<◌, ◌≤◌, true, ◌||◌, ◌⊎◌, List, length, get_or, set, Decides, sym, ap, ◌∙◌, subst, inl, inr, ⊎_elim, below_more, arith}
 use lib.Bits.{bit_or}
 use Rattle.std.proofs.lemmas.List.{get_or-set_same, get_or-set_other, length-set}
-use Rattle.std.proofs.lemmas.Bool.{cases_eq, or_cases, or_left, or_right}
+use Rattle.std.proofs.lemmas.Bool.{or_cases, or_left, or_right}
 use Rattle.rows.specs.Choices.{stands, Kept}
 use Rattle.rows.proofs.Masks.{stands_or}
-use Rattle.tables.specs.Lines.{Fits, Added}
+use Rattle.tables.specs.Lines.{Fits}
 use Rattle.tables.specs.Tables.{takes}
 
 module _ (line masks before : List ℕ) where
@@ -18,14 +18,12 @@ module _ (line masks before : List ℕ) where
     pub done : (p v : ℕ) → p < n → Decides (stands (get_or after p 0) v) (WithLine p v)
     pub rest : (p : ℕ) → n ≤ p → get_or after p 0 ≡ get_or before p 0
 
-  pub adding_none : Adding 0 before
-  adding_none = record { long = refl; done = λ p v h. absurd (omega arith); rest = λ p h. refl }
-
   pub adding_more : (n more : ℕ) (after : List ℕ) → n < length before → Kept (λ v. takes (get_or line n 0) v ≡ true) (get_or masks n 0) more
       → Adding n after → Adding (n + 1) (set after n (bit_or (get_or after n 0) more))
   adding_more n more after h kept a = record {
     long = length-set after n _ ∙ a.long;
-    done = λ p v l. ⊎_elim (λ e. subst (λ q. Decides (stands (get_or (set after n (bit_or (get_or after n 0) more)) q 0) v) (WithLine q v)) (sym e) (here v)) (λ ne. far p v ne (omega arith)) (cases_eq p n);
+    done = λ p v l. below_more (λ q. (w : ℕ) → Decides (stands (get_or (set after n (bit_or (get_or after n 0) more)) q 0) w) (WithLine q w)) n
+        (λ q k w. far q w (λ e. omega arith) k) here p l v;
     rest = λ p l. get_or-set_other after n p _ 0 (λ e. omega arith) ∙ a.rest p (omega arith);
   }
     where
@@ -43,6 +41,3 @@ module _ (line masks before : List ℕ) where
 
       far : (p v : ℕ) → (p ≡ n → ⊥) → p < n → Decides (stands (get_or (set after n (bit_or (get_or after n 0) more)) p 0) v) (WithLine p v)
       far p v ne l = subst (λ m. Decides (stands m v) (WithLine p v)) (sym (get_or-set_other after n p _ 0 ne)) (a.done p v l)
-
-  pub adding_all : (n : ℕ) (after : List ℕ) → length masks ≤ n → Adding n after → Added line masks before after
-  adding_all n after h a = record { long = a.long; exact = λ p v l. a.done p v (omega arith) }

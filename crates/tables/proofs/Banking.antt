@@ -1,11 +1,13 @@
 -- The tables of a bank.
-use Rattle.std.proofs.Common.{◌≡◌, ℕ, ◌<◌, ◌≤◌, true, false, List, [], length, get_or, is_some, None, arith}
-use Rattle.std.specs.List.{AllByRecursion}
-use Rattle.std.proofs.ByRecursion.{All-get_or, All-from_get_or}
+use Rattle.std.proofs.Common.{◌≡◌, ℕ, ◌<◌, ◌≤◌, false, List, [], ◌∷◌, length, get_or, is_some, Some, None, Option, Bor, sym, subst, arith}
+use Rattle.std.specs.List.{HoldsAt}
+use Rattle.std.specs.Option.{MatchOption, option_copied, ok_or}
+use Rattle.std.proofs.ByRecursion.{All-get_or}
 use Rattle.std.proofs.lemmas.List.{length-map}
-use Rattle.banks.specs.Lawful.{max_width}
-use Rattle.banks.specs.Names.{may_name}
-use Rattle.banks.proofs.Calling.{rule_found}
+use Rattle.rows.specs.Refusals.{Answer, first}
+use Rattle.banks.specs.Calls.{call_says, no_such_rule}
+use Rattle.banks.specs.declared.refusal.CallError.TheVariants.{NoSuchRule}
+use Rattle.banks.proofs.Calling.{rule_missing, rule_there, rule_found}
 use Rattle.banks.proofs.Faulting.{sound_bank, none_from_test}
 use Rattle.banks.proofs.Naming.{named_from, sized_from}
 use Rattle.tables.specs.Checks.{fault, refusal}
@@ -31,7 +33,10 @@ table_there w ts pool sound k h =
       wide = (sized_from w (rules_of pool ts) (lawful_bank w ts pool sound)).high;
     }
 
--- the rows that a table names are among the rows
-pub rows_within : (w : ℕ) (names s : List ℕ) → may_name w names ≡ true → w ≤ length s → w ≤ max_width → AllByRecursion (λ r. (r < length s) × (r < max_width)) names
-rows_within w names s e enough wide =
-    All-from_get_or (λ r. (r < length s) × (r < max_width)) names 0 (λ p h. let low = (named_from w names e).within p h in (omega arith, omega arith))
+-- so a look-up of it answers as it should
+pub table_looked_up : (w : ℕ) (ts : List Table) (pool : List ℕ) → is_some (refusal w ts pool) ≡ false → (k : ℕ) (o : Option (Bor Table))
+    → MatchOption o (length ts ≤ k) (λ t. (k < length ts) × HoldsAt (λ x. t.now ≡ x) ts k)
+    → Answer call_says (first (no_such_rule (rules_of pool ts) k ∷ [])) (Unit {0}) (TableOf w ts pool k) (ok_or (option_copied o) NoSuchRule)
+table_looked_up w ts pool sound k None past = (rule_missing (meaning pool) ts k [] past, tt)
+table_looked_up w ts pool sound k (Some t) here =
+    (rule_there (meaning pool) ts k [] here.0, subst (TableOf w ts pool k) (sym (here.1 no_table)) (table_there w ts pool sound k here.0))

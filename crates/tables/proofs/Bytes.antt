@@ -1,16 +1,22 @@
--- Bytes of a table, and the choices that match one.
-use Rattle.std.proofs.Common.{◌≡◌, ℕ, ◌^◌, ◌<◌, true, eqb, List, sym, ◌∙◌, ⊎_elim, arith}
+-- The choices that match a byte of a table, and the bytes of a part of others.
+use Rattle.std.proofs.Common.{◌≡◌, ℕ, ◌^◌, ◌<◌, true, eqb, List, ◌++◌, length, take, drop, sym, refl, ◌∙◌, ⊎_elim, arith}
 use lib.Bits.{bit_and}
-use Rattle.std.specs.List.{AllByRecursion}
+use Rattle.std.proofs.lemmas.List.{take_at, drop_at}
+use Rattle.std.proofs.lemmas.List.Elements.{All-same, All-take, All-drop}
 use Rattle.std.proofs.lemmas.Bool.{and_parts, and_from, or_cases, or_right, eqb-true, eq-eqb}
 use Rattle.rows.specs.Choices.{choices, stands, Kept}
 use Rattle.rows.proofs.Masks.{stands_and, stands_bit}
-use Rattle.tables.specs.Checks.{table_byte}
+use Rattle.tables.specs.Checks.{table_byte, TableBytes}
 use Rattle.tables.specs.Tables.{star, takes}
 
--- a table may have all of the bytes
-abbrev pub Bytes : List ℕ → Type 0
-Bytes = AllByRecursion (λ b. table_byte b ≡ true)
+-- the bytes of a front, and those after it
+pub front_fine : (front rest : List ℕ) → TableBytes (front ++ rest) → TableBytes front
+front_fine front rest fine =
+    All-same (λ b. table_byte b ≡ true) front (take (length front) (front ++ rest)) (sym (take_at front rest (length front) refl)) (All-take (λ b. table_byte b ≡ true) (length front) (front ++ rest) fine)
+
+pub rest_fine : (front rest : List ℕ) → TableBytes (front ++ rest) → TableBytes rest
+rest_fine front rest fine =
+    All-same (λ b. table_byte b ≡ true) rest (drop (length front) (front ++ rest)) (sym (drop_at front rest (length front) refl)) (All-drop (λ b. table_byte b ≡ true) (length front) (front ++ rest) fine)
 
 -- a choice alone matches its byte
 pub one_choice : (b m : ℕ) → b < choices → Kept (λ v. takes b v ≡ true) m (bit_and m (2 ^ b))

@@ -5,5 +5,6 @@ mod Cutting
 mod Finding
 mod Scanning
 mod Supporting
+mod Showing
 mod Checking
 mod Banking

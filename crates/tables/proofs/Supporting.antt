@@ -1,8 +1,8 @@
 -- The choices that the lines of a table give are those that have support: a live tuple is built from a line that lives by a choice at each
 -- place, and a live tuple has a line that it matches.
 use Rattle.std.proofs.Common.{◌≡◌, ℕ, zero, suc, ◌-◌, ◌<◌, ◌≤◌, true, List, [], ◌∷◌, ◌++◌, map, length, get_or, drop, Decides, sym, refl, ap, ◌∙◌, subst, ⊎_elim, arith}
-use Rattle.std.specs.List.{ContainsAt as Has, HoldsAt}
-use Rattle.std.proofs.ByRecursion.{has_get_or}
+use Rattle.std.specs.List.{Contains, HoldsAt}
+use Rattle.std.proofs.lemmas.List.Elements.{Contains-get_or, at_from_Contains}
 use Rattle.std.proofs.lemmas.List.{get_or-map, length-map, get_or_append_left, get_or-append_right, get_or-drop, length-append, length-drop}
 use Rattle.std.proofs.lemmas.Bool.{and_parts, and_from, cases_eq, false≢true}
 use Rattle.std.proofs.lemmas.Bool.Decides.{Decides-by_or, Decides-like}
@@ -38,12 +38,13 @@ some_decides_match : (t : List ℕ) (lines : List (List ℕ))
 some_decides_match t lines =
     Decides-by_or (λ line. matches line t) (λ line. matches line t ≡ true) (λ ls. some_match ls t) (λ line. ((λ e. e), (λ e. e))) refl (λ _ _. refl) lines
 
-pub some_matched : (lines : List (List ℕ)) (t line : List ℕ) → Has lines line → matches line t ≡ true → some_match lines t ≡ true
-some_matched lines t line h e = (some_decides_match t lines).1 (h.0, h.1, λ d. subst (λ l. matches l t ≡ true) (sym (h.2 d)) e)
+pub some_matched : (lines : List (List ℕ)) (t line : List ℕ) → Contains lines line → matches line t ≡ true → some_match lines t ≡ true
+some_matched lines t line h e =
+    let at = at_from_Contains lines line h in (some_decides_match t lines).1 (at.0, at.1, λ d. subst (λ l. matches l t ≡ true) (sym (at.2 d)) e)
 
-pub match_found : (lines : List (List ℕ)) (t : List ℕ) → some_match lines t ≡ true → (line : List ℕ) × Has lines line × (matches line t ≡ true)
+pub match_found : (lines : List (List ℕ)) (t : List ℕ) → some_match lines t ≡ true → (line : List ℕ) × Contains lines line × (matches line t ≡ true)
 match_found lines t e =
-    let k = (some_decides_match t lines).0 e in (get_or lines k.0 [], has_get_or lines k.0 [] k.1, k.2 [])
+    let k = (some_decides_match t lines).0 e in (get_or lines k.0 [], Contains-get_or lines k.0 [] k.1, k.2 [])
 
 -- a tuple of one choice for each place
 pub chosen : (n : ℕ) (P : ℕ → ℕ → Type 0) → ((p : ℕ) → p < n → (v : ℕ) × P p v)

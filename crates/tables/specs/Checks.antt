@@ -1,5 +1,6 @@
 -- Which tables a bank may hold.
-use Rattle.std.specs.Prelude.{◌≡◌, ℕ, suc, ◌+◌, Bool, not, ◌&&◌, ◌||◌, List, [], ◌∷◌, length, Option, MatchOption, ◌==◌, nat_le, nat_lt}
+use Rattle.std.specs.Prelude.{◌≡◌, ℕ, suc, ◌+◌, Bool, true, not, ◌&&◌, ◌||◌, List, [], ◌∷◌, length, Option, MatchOption, ◌==◌, nat_le, nat_lt}
+use Rattle.std.specs.List.{All}
 use Rattle.rows.specs.Choices.{choices}
 use Rattle.rows.specs.Refusals.{Refusal, fits, first}
 use Rattle.banks.specs.Faults.{at_spot, bank_refusal}
@@ -28,6 +29,10 @@ in_pool pool t = nat_le t.lines max_lines && nat_le (t.start + size t) (length p
 -- A byte of a table is a choice or the star.
 abbrev pub table_byte : ℕ → Bool
 table_byte b = nat_lt b choices || b == star
+
+-- Each of some bytes may be a byte of a table.
+abbrev pub TableBytes : List ℕ → Type 0
+TableBytes = All (λ b. table_byte b ≡ true)
 
 -- The faults of bytes whose indices in the pool are from i on.
 abbrev pub byte_faults : ℕ → List ℕ → List (Option Refusal)

@@ -1,6 +1,6 @@
 -- What a line of a table gives on the masks of the rows that the table names, a mask for each place.
 use Rattle.std.specs.Prelude.{◌≡◌, ℕ, ◌<◌, true, ◌⊎◌, List, length, Decides, slice_index}
-use Rattle.std.specs.List.{ContainsAt as Has}
+use Rattle.std.specs.List.{Contains}
 use Rattle.rows.specs.Choices.{stands}
 use Rattle.tables.specs.Tables.{takes}
 
@@ -19,7 +19,7 @@ Gives line masks p v = Lives line masks × Fits (slice_index line p) (slice_inde
 
 -- Some line of a list gives the choice v at a place.
 abbrev pub Given : List (List ℕ) → List ℕ → ℕ → ℕ → Type 0
-Given lines masks p v = (line : List ℕ) × Has lines line × Gives line masks p v
+Given lines masks p v = (line : List ℕ) × Contains lines line × Gives line masks p v
 
 -- The masks found are those of the choices that some line gives, place by place.
 pub record Found (lines : List (List ℕ)) (masks found : List ℕ) : Type 0 where

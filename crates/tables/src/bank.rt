@@ -1,18 +1,18 @@
 // The bank of table rules.
-ghost use Rattle.std.specs.Prelude.{◌≡◌, true, false, [], ◌∷◌, length, is_some, Some, None, MatchOption};
+ghost use Rattle.std.specs.Prelude.{◌≡◌, ◌≤◌, false, [], ◌∷◌, length, is_some};
 ghost use Rattle.rows.specs.Refusals.{Answer, first};
-ghost use Rattle.banks.specs.Calls.{call_says, no_such_rule};
-ghost use Rattle.banks.specs.Faults.{bank_says, of_rule};
-ghost use Rattle.banks.specs.Lawful.{may_hold};
+ghost use Rattle.banks.specs.Calls.{call_says, no_such_rule, Shows};
+ghost use Rattle.banks.specs.Faults.{bank_says};
 ghost use Rattle.tables.specs.Checks.{refusal, fault_says, Made};
-ghost use Rattle.tables.specs.Owed.{lawful_bank, TableOf};
-ghost use Rattle.tables.specs.Tables.{rules_of};
+ghost use Rattle.tables.specs.Owed.{lawful_bank, Fine, TableOf};
+ghost use Rattle.tables.specs.Tables.{meaning, places, rules_of};
 
 use crate::refusal::TableFault;
-use crate::support::show;
+use crate::support::find;
 use crate::table::Table;
 use banks::bank::Bank;
-use banks::limits::may_hold;
+use banks::checking::check_rules;
+use banks::picking::masks_of;
 use banks::questions::admit;
 use banks::refusal::{BankError, CallError};
 
@@ -25,34 +25,16 @@ pub struct TableBank<'a> {
     ghost sound: { is_some (refusal width tables.now pool.now) ≡ false },
 }
 
-// The first table with a fault, by its number, and the fault.
-fn first_fault(width: usize, tables: &[Table], pool: &[u8]) -> Option<(usize, TableFault)>
-    requires { may_hold width (length tables.now) ≡ true }
-    ensures { MatchOption result (refusal width tables.now pool.now ≡ None) (λ x. refusal width tables.now pool.now ≡ Some (of_rule x.0 (fault_says x.1))) }
-{
-    for (number, table) in tables.iter().enumerate() {
-        if let Err(fault) = table.check(width, pool) {
-            return Some((number, fault));
-        }
-    }
-    None
-}
-
 impl<'a> TableBank<'a> {
     // Refuses a width, tables and a pool of which no bank can be made.
     pub fn check(width: usize, tables: &[Table], pool: &[u8]) -> Result<(), BankError<TableFault>>
         ensures { Answer (bank_says fault_says) (refusal width tables.now pool.now) (Unit {0}) (λ _. Unit {0}) result }
     {
-        if !may_hold(width, tables.len()) {
-            return Err(BankError::Size);
-        }
-        match first_fault(width, tables, pool) {
-            Some((number, fault)) => Err(BankError::Rule { number, fault }),
-            None => Ok(()),
-        }
+        check_rules(width, tables, |table| table.check(width, pool))
     }
 
-    // The bank of a width and tables over a pool, or, where the check refuses, one of width 1 and no rules.
+    // The bank of a width and tables over a pool, or, where the check refuses, one of width 1 and no rules. A making
+    // cannot refuse, by the rules of the engine.
     pub fn make(width: usize, tables: &'a [Table<'a>], pool: &'a [u8]) -> TableBank<'a>
         ensures { Made width tables.now pool.now result.width (rules_of result.pool.now result.tables.now) }
     {
@@ -71,21 +53,23 @@ impl<'a> TableBank<'a> {
         }
     }
 
-    // How many tables there are.
-    fn count(&self) -> usize
-        ensures { result ≡ length (rules_of self.now.pool.now self.now.tables.now) }
-    {
-        self.tables.len()
-    }
-
-    // The table of a rule's number.
+    // The table of a rule's number. As in the banks of the other kinds, each over its own type.
     fn table(&self, rule: usize) -> Result<Table<'a>, CallError>
         ensures { Answer call_says (first (no_such_rule (rules_of self.now.pool.now self.now.tables.now) rule ∷ [])) (Unit {0}) (TableOf self.now.width self.now.tables.now self.now.pool.now rule) result }
     {
-        if rule >= self.tables.len() {
-            return Err(CallError::NoSuchRule);
-        }
-        Ok(self.tables[rule])
+        self.tables.get(rule).copied().ok_or(CallError::NoSuchRule)
+    }
+
+    // Shows the support of a table of the bank on rows. It has no fault, so its lines lie in the pool.
+    fn show(&self, table: Table, rows: &[u64], masks: &mut [u64])
+        requires fine { Fine self.now.width self.now.pool.now table }
+        requires room { places table ≤ length masks.old }
+        ensures { Shows rows.now (meaning self.now.pool.now table.entry) masks.old masks.new }
+    {
+        let arity = table.rows.len();
+        let bytes = table.bytes(self.pool).unwrap();
+        let standing = masks_of(table.rows, rows);
+        find(bytes, &standing[..arity], &mut masks[..arity]);
     }
 }
 
@@ -101,26 +85,22 @@ impl Bank for TableBank<'_> {
     }
 
     fn rule_count(&self) -> usize {
-        self.count()
+        self.tables.len()
     }
 
     fn arity(&self, rule: usize) -> Result<usize, CallError> {
-        let table = self.table(rule)?;
-        Ok(table.rows.len())
+        Ok(self.table(rule)?.rows.len())
     }
 
     fn row_at(&self, rule: usize, place: usize) -> Result<usize, CallError> {
         let table = self.table(rule)?;
-        if place >= table.rows.len() {
-            return Err(CallError::NoSuchPlace);
-        }
-        Ok(table.rows[place])
+        table.rows.get(place).copied().ok_or(CallError::NoSuchPlace)
     }
 
     fn support(&self, rule: usize, rows: &[u64], masks: &mut [u64]) -> Result<(), CallError> {
         let table = self.table(rule)?;
         admit(self.width, table.rows.len(), rows, masks)?;
-        show(table, self.width, self.pool, rows, masks);
+        self.show(table, rows, masks);
         Ok(())
     }
 }

@@ -1,7 +1,7 @@
 // What can be wrong with a table.
 ghost use Rattle.tables.specs.Checks.{fault_says};
 
-use rows::refusal::Numbered;
+use banks::refusal::Fault;
 
 // The fault of a table.
 #[derive(Clone, Copy, PartialEq, Eq, Debug)]
@@ -14,7 +14,7 @@ pub enum TableFault {
     Byte { spot: usize },
 }
 
-impl Numbered for TableFault {
+impl Fault for TableFault {
     ghost says = { fault_says };
 
     fn number(&self) -> u32 {
@@ -25,14 +25,10 @@ impl Numbered for TableFault {
         }
     }
 
-    // The spot, which is 0 but for a byte.
-    fn value(&self, index: usize) -> Option<usize> {
-        if index > 0 {
-            return None;
-        }
+    fn spot(&self) -> usize {
         match self {
-            TableFault::Byte { spot } => Some(*spot),
-            _ => Some(0),
+            TableFault::Byte { spot } => *spot,
+            _ => 0,
         }
     }
 }

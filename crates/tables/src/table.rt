@@ -1,10 +1,8 @@
 // Table rules.
-ghost use Rattle.std.specs.Prelude.{◌≡◌, ◌+◌, ◌^◌, ◌<◌, ◌≤◌, true, length, Some, None, MatchOption};
-ghost use Rattle.rows.specs.Refusals.{Answer, first};
-ghost use Rattle.banks.specs.Names.{max_arity};
-ghost use Rattle.tables.specs.Checks.{fault, fault_says, in_pool, table_byte, byte_faults};
-ghost use Rattle.tables.specs.Tables.{places, bytes_of};
-ghost use Rattle.tables.specs.declared.refusal.TableFault.TheVariants.{Byte};
+ghost use Rattle.std.specs.Prelude.{◌≡◌, true, false, not, position, Some, None, MatchOption};
+ghost use Rattle.rows.specs.Refusals.{Answer};
+ghost use Rattle.tables.specs.Checks.{fault, fault_says, in_pool, table_byte};
+ghost use Rattle.tables.specs.Tables.{bytes_of};
 
 use crate::refusal::TableFault;
 use banks::limits::may_name;
@@ -16,7 +14,8 @@ pub const STAR: u8 = 255;
 // The most lines of a table.
 pub const MAX_LINES: usize = 65535;
 
-// A table rule: the rows that it names, and its lines of one byte a place, which stand one after another in a pool from a start byte on.
+// A table rule: the rows that it names, and its lines of one byte a place, which stand one after another in a pool from a start byte on. By the
+// rules of the engine the tables of a bank have one pool in common, so a table says where its bytes begin and how many lines they make.
 #[derive(Clone, Copy)]
 pub struct Table<'a> {
     pub rows: &'a [usize],
@@ -31,36 +30,23 @@ fn is_table_byte(byte: u8) -> bool
     (byte as usize) < CHOICES || byte == STAR
 }
 
-// The index in the pool of the first byte that no table may have, of bytes from a start on.
-fn first_bad(bytes: &[u8], start: usize) -> Option<usize>
-    requires { start + length bytes.now < 2 ^ 64 }
-    ensures { MatchOption result (first (byte_faults start bytes.now) ≡ None) (λ spot. first (byte_faults start bytes.now) ≡ Some (fault_says (Byte spot))) }
+// The index of the first byte that no table may have.
+fn first_bad(bytes: &[u8]) -> Option<usize>
+    ensures { result ≡ position (λ b. not (table_byte b)) bytes.now }
 {
-    for (index, byte) in bytes.iter().enumerate() {
-        if !is_table_byte(*byte) {
-            return Some(start + index);
-        }
-    }
-    None
+    bytes.iter().position(|byte| !is_table_byte(*byte))
 }
 
 impl Table<'_> {
-    // Whether the lines are not too many, and lie in a pool.
-    fn is_in(&self, pool: &[u8]) -> bool
-        requires { places self.now ≤ max_arity }
-        ensures { result ≡ in_pool pool.now self.now }
+    // The bytes of the table in a pool, if the lines are not too many and lie in it.
+    pub(crate) fn bytes<'p>(&self, pool: &'p [u8]) -> Option<&'p [u8]>
+        ensures { MatchOption result (in_pool pool.now self.now ≡ false) (λ bytes. (in_pool pool.now self.now ≡ true) × (bytes.now ≡ bytes_of pool.now self.now)) }
     {
-        self.lines <= MAX_LINES
-            && self.start <= pool.len()
-            && self.lines * self.rows.len() <= pool.len() - self.start
-    }
-
-    // The bytes of the table.
-    pub(crate) fn bytes<'p>(&self, pool: &'p [u8]) -> &'p [u8]
-        requires { (places self.now ≤ max_arity) × (in_pool pool.now self.now ≡ true) }
-        ensures { result.now ≡ bytes_of pool.now self.now }
-    {
-        &pool[self.start..self.start + self.lines * self.rows.len()]
+        if self.lines > MAX_LINES {
+            return None;
+        }
+        let size = self.lines.checked_mul(self.rows.len())?;
+        pool.get(self.start..)?.get(..size)
     }
 
     // Refuses a table that a bank of a width may not hold over a pool.
@@ -70,11 +56,11 @@ impl Table<'_> {
         if !may_name(width, self.rows) {
             return Err(TableFault::Rows);
         }
-        if !self.is_in(pool) {
-            return Err(TableFault::Lines);
-        }
-        match first_bad(self.bytes(pool), self.start) {
-            Some(spot) => Err(TableFault::Byte { spot }),
+        let bytes = self.bytes(pool).ok_or(TableFault::Lines)?;
+        match first_bad(bytes) {
+            Some(index) => Err(TableFault::Byte {
+                spot: self.start + index,
+            }),
             None => Ok(()),
         }
     }

@@ -12,7 +12,7 @@ pub loop-choice-preserved : goal.loop-choice-preserved
 loop-choice-preserved c =
     let low : c.in-Some.choice % c.args.modulus < 64 = omega (arith, mod_below c.in-Some.choice c.args.modulus c.requires.0) in
     let walked = c.in-Some.ensures.steps in
-    simp (one_shl (c.in-Some.choice % c.args.modulus) 64 low)
+    simp (c.from.ensures, one_shl (c.in-Some.choice % c.args.modulus) 64 low)
     (gathering_more c.args.mask c.args.modulus c.loop-choice.choice-iterator.rest c.next.new.self.rest c.in-Some.choice c.loop-choice.left walked.0.here walked.1 c.loop-choice.invariant)
 
 pub returns : goal.returns

@@ -1,26 +1,73 @@
-use Rattle.std.proofs.Common.{◌≡◌, ℕ, true, ℤ, pos, ◌-ℤ◌, neg_ℤ, sym, ap, ◌∙◌, subst, w32, SFits, to_z, of_z, rules}
-use Rattle.std.proofs.lemmas.Int.{to_z-of_z}
-use Rattle.std.proofs.lemmas.Bool.{and_parts}
-use Rattle.rows.specs.Choices.{stands, Kept}
-use Rattle.rows.proofs.Keeping.{kept_like}
-use Rattle.differences.specs.Checks.{offset_fits, modulus_fits}
-use Rattle.differences.specs.Differences.{relates}
-use Rattle.differences.specs.Partners.{HasPartner}
-use Rattle.differences.specs.declared.partner.Seek.TheVariants.{AtLeast, AtMost}
-use Rattle.differences.proofs.Sides.{from_x, from_y, neg_small, zero_plus}
+use Rattle.std.proofs.Common.{◌≡◌, ◌<◌, ℕ, ℤ, true, not, leb, pos, ◌+ℤ◌, ◌-ℤ◌, Decides, w64, to_z, of_z, sym, ap, ◌∙◌, rules}
+use Rattle.std.specs.Int.{int_rem_euclid}
+use Rattle.std.proofs.lemmas.Bool.{and_parts, leb-true}
+use Rattle.rows.specs.Choices.{choices}
+use Rattle.differences.specs.Checks.{in_bounds, offset_fits, modulus_fits}
+use Rattle.differences.specs.Differences.{relates, multiple}
+use Rattle.differences.specs.Partners.{Finds, itself, another, at_least, at_most}
+use Rattle.differences.specs.declared.difference.Difference.{Difference}
+use Rattle.differences.specs.declared.difference.Relation.TheVariants.{Congruent}
+use Rattle.differences.proofs.Congruence.{congruent_found}
+use Rattle.differences.proofs.Sides.{same_turned, at_most_turned, multiple_turned, kept_of_x, kept_of_y}
 use Rattle.differences.proofs.support.both_sides.Goals as goal
 
-pub returns : goal.returns
-returns c =
-    let rel = c.args.difference.relation in
-    let off = c.args.difference.offset in
-    let f : SFits w32 off = search rules in
-    let n : SFits w32 (neg_ℤ off) = record { sfits = neg_small off (and_parts (offset_fits off) (modulus_fits rel) c.requires).0 } in
-    let turned : to_z w32 (of_z w32 (pos 0 -ℤ to_z w32 (of_z w32 off))) ≡ neg_ℤ off =
-    ap (λ z. to_z w32 (of_z w32 (pos 0 -ℤ z))) (to_z-of_z w32 off f) ∙ ap (λ z. to_z w32 (of_z w32 z)) (zero_plus (neg_ℤ off)) ∙ to_z-of_z w32 (neg_ℤ off) n
-    in (
-      kept_like (HasPartner rel AtLeast off c.args.ys) (λ x. (y : ℕ) × (stands c.args.ys y ≡ true) × (relates rel off x y ≡ true)) c.args.xs c.partnered-of_x.result
-          (λ x p. (p.0, p.1, sym (from_x rel off x p.0) ∙ p.2)) (λ x p. (p.0, p.1, from_x rel off x p.0 ∙ p.2)) (simp to_z-of_z at c.partnered-of_x.ensures),
-      kept_like (HasPartner rel AtMost (neg_ℤ off) c.args.xs) (λ y. (x : ℕ) × (stands c.args.xs x ≡ true) × (relates rel off x y ≡ true)) c.args.ys c.partnered-of_y.result
-          (λ y p. (p.0, p.1, sym (from_y rel off p.0 y) ∙ p.2)) (λ y p. (p.0, p.1, from_y rel off p.0 y ∙ p.2)) (subst (λ (z : ℤ). Kept (HasPartner rel AtMost z c.args.xs) c.args.ys c.partnered-of_y.result) turned c.partnered-of_y.ensures),
-    )
+pub returns-in-Equal-clause-of_x : goal.returns-in-Equal-clause-of_x
+returns-in-Equal-clause-of_x c =
+    let d = c.args.difference in
+    kept_of_x d c.requires c.from-offset.result c.from-offset.ensures _ itself c.args.xs c.args.ys c.keep.result (search rules) c.keep.ensures
+    (λ x y. ap (λ relation. relates relation d.offset x y) (sym c.in-Equal.is)) (λ v b says. search rules)
+
+pub returns-in-Equal-clause-of_y : goal.returns-in-Equal-clause-of_y
+returns-in-Equal-clause-of_y c =
+    let d = c.args.difference in
+    kept_of_y d c.requires c.from-offset.result c.from-offset.ensures _ itself c.args.ys c.args.xs c.keep-in-Equal.result (search rules) c.keep-in-Equal.ensures
+    (λ x y. same_turned d.offset x y ∙ ap (λ relation. relates relation d.offset x y) (sym c.in-Equal.is)) (λ v b says. search rules)
+
+pub returns-in-Unequal-clause-of_x : goal.returns-in-Unequal-clause-of_x
+returns-in-Unequal-clause-of_x c =
+    let d = c.args.difference in
+    kept_of_x d c.requires c.from-offset.result c.from-offset.ensures _ another c.args.xs c.args.ys c.keep-in-Unequal.result (search rules) c.keep-in-Unequal.ensures
+    (λ x y. ap (λ relation. relates relation d.offset x y) (sym c.in-Unequal.is)) (λ v b says. search rules)
+
+pub returns-in-Unequal-clause-of_y : goal.returns-in-Unequal-clause-of_y
+returns-in-Unequal-clause-of_y c =
+    let d = c.args.difference in
+    kept_of_y d c.requires c.from-offset.result c.from-offset.ensures _ another c.args.ys c.args.xs c.keep-in-Unequal-2.result (search rules) c.keep-in-Unequal-2.ensures
+    (λ x y. ap not (same_turned d.offset x y) ∙ ap (λ relation. relates relation d.offset x y) (sym c.in-Unequal.is)) (λ v b says. search rules)
+
+pub returns-in-AtMost-clause-of_x : goal.returns-in-AtMost-clause-of_x
+returns-in-AtMost-clause-of_x c =
+    let d = c.args.difference in
+    kept_of_x d c.requires c.from-offset.result c.from-offset.ensures _ at_least c.args.xs c.args.ys c.keep-in-AtMost.result (search rules) c.keep-in-AtMost.ensures
+    (λ x y. ap (λ relation. relates relation d.offset x y) (sym c.in-AtMost.is)) (λ v b says. search rules)
+
+pub returns-in-AtMost-clause-of_y : goal.returns-in-AtMost-clause-of_y
+returns-in-AtMost-clause-of_y c =
+    let d = c.args.difference in
+    kept_of_y d c.requires c.from-offset.result c.from-offset.ensures _ at_most c.args.ys c.args.xs c.keep-in-AtMost-2.result (search rules) c.keep-in-AtMost-2.ensures
+    (λ x y. at_most_turned d.offset x y ∙ ap (λ relation. relates relation d.offset x y) (sym c.in-AtMost.is)) (λ v b says. search rules)
+
+positive : (d : Difference) (m : ℕ) → in_bounds d ≡ true → d.relation ≡ Congruent m → 0 < m
+positive d m bounds is =
+    let fits = (and_parts (offset_fits d.offset) (modulus_fits d.relation) bounds).1 in
+    leb-true 1 m (and_parts (leb 1 m) (leb m choices) (sym (ap modulus_fits is) ∙ fits)).0
+
+pub returns-in-Congruent-clause-of_x : goal.returns-in-Congruent-clause-of_x
+returns-in-Congruent-clause-of_x c =
+    let d = c.args.difference in
+    let m = c.in-Congruent.modulus in
+    kept_of_x d c.requires c.from-offset.result c.from-offset.ensures _ (λ z w. multiple m (z -ℤ pos w)) c.args.xs c.args.ys c.keep-in-Congruent.result (search rules) c.keep-in-Congruent.ensures
+    (λ x y. ap (λ relation. relates relation d.offset x y) (sym c.in-Congruent.is))
+    (λ v b says.
+    let t : (s r : ℤ) × (s ≡ to_z w64 (of_z w64 (pos v +ℤ to_z w64 (of_z w64 c.from-offset.result)))) × (r ≡ int_rem_euclid s (pos m)) × Decides b (Finds (itself r) c.remainders-of_ys.result) = search rules in
+    (t.0, t.2, congruent_found c.args.ys m c.remainders-of_ys.result t.0 t.1 b (positive d m c.requires c.in-Congruent.is) c.remainders-of_ys.ensures t.3 t.4))
+
+pub returns-in-Congruent-clause-of_y : goal.returns-in-Congruent-clause-of_y
+returns-in-Congruent-clause-of_y c =
+    let d = c.args.difference in
+    let m = c.in-Congruent.modulus in
+    kept_of_y d c.requires c.from-offset.result c.from-offset.ensures _ (λ z w. multiple m (z -ℤ pos w)) c.args.ys c.args.xs c.keep-in-Congruent-2.result (search rules) c.keep-in-Congruent-2.ensures
+    (λ x y. multiple_turned d.offset x y m ∙ ap (λ relation. relates relation d.offset x y) (sym c.in-Congruent.is))
+    (λ v b says.
+    let t : (s r : ℤ) × (s ≡ to_z w64 (of_z w64 (pos v -ℤ to_z w64 (of_z w64 c.from-offset.result)))) × (r ≡ int_rem_euclid s (pos m)) × Decides b (Finds (itself r) c.remainders-of_xs.result) = search rules in
+    (t.0, t.2, congruent_found c.args.xs m c.remainders-of_xs.result t.0 t.1 b (positive d m c.requires c.in-Congruent.is) c.remainders-of_xs.ensures t.3 t.4))

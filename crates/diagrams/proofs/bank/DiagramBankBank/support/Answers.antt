@@ -1,16 +1,12 @@
-use Rattle.std.proofs.Common.{◌≡◌, length, arith, rules}
-use Rattle.banks.proofs.Calling.{rows_enough}
-use Rattle.diagrams.proofs.Banking.{rows_named, layered, support_shows}
+use Rattle.std.proofs.Common.{◌≡◌, length, rules}
+use Rattle.diagrams.proofs.Banking.{layered, support_shows}
 use Rattle.diagrams.proofs.bank.DiagramBankBank.support.Goals as goal
 
 pub supported-shown-requires : goal.supported-shown-requires
 supported-shown-requires c =
     let b = c.args.self.now in
     let d = c.in_ok-diagram.diagram in
-    let fine = c.in_ok-diagram.ensures.fine in (
-      layered b.width b.places.now b.arcs.now d fine c.of-nodes.result.now c.of-arcs.result.now c.of-nodes.ensures c.of-arcs.ensures,
-      (λ p h. omega (arith, (rows_named b.width b.places.now b.arcs.now d fine).within p h, rows_enough b.width c.args.rows.now _ c.in_ok-admit.ensures.0)),
-    )
+    layered b.width b.places.now b.arcs.now d c.in_ok-diagram.ensures.fine c.of-nodes.result.now c.of-arcs.result.now c.of-nodes.ensures c.of-arcs.ensures
 
 pub returns : goal.returns
 returns c =
