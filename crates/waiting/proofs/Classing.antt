@@ -1,29 +1,30 @@
 -- Lists by classes: the check of the classes, and what a change of one class's set makes of the numbers that wait.
-use Rattle.std.proofs.Common.{◌≡◌, ℕ, zero, suc, ◌-◌, ◌<◌, ◌≤◌, true, false, not, ◌&&◌, ◌||◌, eqb, ltb, leb, List, [], ◌∷◌, length, get_or, set, replicate, is_ok, Some, None, Ok, Err, Result, sym, ap, ◌∙◌, subst, ⊎_elim, arith}
+use Rattle.std.proofs.Common.{◌≡◌, ℕ, zero, suc, ◌-◌, ◌<◌, ◌≤◌, Bool, ◌⊎◌, inl, true, false, not, ◌&&◌, ◌||◌, eqb, ltb, leb, List, [], ◌∷◌, ◌+◌, length, get_or, set, is_ok, Some, None, Option, MatchOption, Ok, Err, Result, sym, refl, ap, ◌∙◌, subst, ⊎_elim, arith}
 use mathlib.Core.Bool.{and-true, or-false}
-use Rattle.std.proofs.lemmas.List.{get_or-set_same, get_or-set_other, get_or_past}
-use Rattle.std.proofs.lemmas.Bool.{cases_lt, cases_eq, eq-eqb, ne_eqb, eqb-true, le-leb, lt-leb, lt-ltb, leb-true, and_parts, and_right, and_from, or_left, or_right, or_cases, not-false, both_ways, cond-true, cond-false, false≢true}
+use denote.Param.Members.{Mut, Called}
+use denote.Ref.{Bor}
+use Rattle.std.proofs.lemmas.Option.{none-some, same_Some}
+use Rattle.std.specs.Iterator.Runs.{Run, ItemsMapTo, CallKeepsClosure, AllItemsGive, IsFirstToGive}
+use Rattle.std.specs.List.{list_all}
+use Rattle.std.specs.Option.{option_map, IfSome, IsSomeAnd}
+use Rattle.std.proofs.lemmas.List.{get_or-set_same, get_or-set_other, get_or_past, get_or_default}
+use Rattle.std.proofs.lemmas.Bool.{cases_lt, cases_eq, eq-eqb, ne_eqb, eqb-true, lt-ltb, leb-true, and_parts, and_from, or_left, or_right, or_cases, not-false, both_ways, cond-true, cond-false, false≢true}
 use Rattle.rows.specs.Refusals.{plain, fits, Answer}
 use Rattle.rows.proofs.Masks.{stands_zero}
 use Rattle.rows.proofs.Refusing.{first_past, first_here, first_none, fits_none}
 use Rattle.waiting.specs.ListRefusals.{list_says}
 use Rattle.waiting.specs.Waiting.{Empty, With, But, may_have, no_capacity}
-use Rattle.waiting.specs.Sets.{Marked, holds, LowestOf}
-use Rattle.waiting.specs.Classes.{all_classes, max_class, classes_refusal, class_of, goes_before, Next, no_set, held_at, waits_in, LowestOfFirst}
-use Rattle.waiting.specs.Owed.{OwnClass}
+use Rattle.rows.specs.Words.{holds}
+use Rattle.waiting.specs.Sets.{LowestOf, LowestAnswer}
+use Rattle.waiting.specs.Classes.{all_classes, max_class, classes_refusal, class_of, goes_before, Next, no_set, held_at, waits_in, LowestOfFirst, FirstAnswer}
+use Rattle.waiting.specs.Owed.{OwnClass, classed_below}
 use Rattle.waiting.specs.declared.numbers.NumberSet.{NumberSet}
 use Rattle.waiting.specs.declared.refusal.ListError.{ListError}
 
--- one class more
-pub class_fine : (c : ℕ) (cs : List ℕ) → 1 ≤ c → c ≤ max_class → all_classes (c ∷ cs) ≡ all_classes cs
-class_fine c cs low high = ap (λ b. (b && leb c max_class) && all_classes cs) (le-leb 1 c low) ∙ ap (λ b. b && all_classes cs) (le-leb c max_class high)
-
-pub class_zero : (c : ℕ) (cs : List ℕ) → c ≡ 0 → all_classes (c ∷ cs) ≡ false
-class_zero c cs e = ap (λ x. all_classes (x ∷ cs)) e
-
-pub class_high : (c : ℕ) (cs : List ℕ) → max_class < c → all_classes (c ∷ cs) ≡ false
-class_high c cs h =
-    ap (λ b. b && all_classes cs) (and_right (leb 1 c) (leb c max_class) (lt-leb c max_class h))
+-- a list of classes is one whose each class is from 1 to the last
+pub each_fine : (cs : List ℕ) → list_all (λ c. leb 1 c && leb c max_class) cs ≡ all_classes cs
+each_fine [] = refl
+each_fine (c ∷ cs) = ap (λ b. leb 1 c && leb c max_class && b) (each_fine cs)
 
 -- what the check comes to
 module _ (cs : List ℕ) (size : may_have (length cs) ≡ true) where
@@ -58,15 +59,6 @@ class_at (c ∷ cs) zero e h =
     (leb-true 1 c q.0, leb-true c max_class q.1)
 class_at (c ∷ cs) (suc k) e h = class_at cs k (and_parts (leb 1 c && leb c max_class) (all_classes cs) e).1 (omega arith)
 
--- what holds of one set and of no set holds of each of equal sets
-pub each_set : (P : NumberSet → Type 0) (n : ℕ) (s : NumberSet) → P s → P no_set → (place : ℕ) → P (get_or (replicate n s) place no_set)
-each_set P zero s here past place = past
-each_set P (suc n) s here past zero = here
-each_set P (suc n) s here past (suc place) = each_set P n s here past place
-
-pub no_set_marked : Marked no_set
-no_set_marked w = stands_zero w
-
 pub no_set_empty : Empty (holds no_set)
 no_set_empty k = stands_zero _
 
@@ -74,6 +66,30 @@ no_set_empty k = stands_zero _
 pub none_anywhere : (sets : List NumberSet) → ((place : ℕ) → place < length sets → Empty (held_at sets place)) → (place : ℕ) → Empty (held_at sets place)
 none_anywhere sets none place k =
     ⊎_elim (λ h. none place h k) (λ h. ap (λ s. holds s k) (get_or_past sets place no_set h) ∙ no_set_empty k) (cases_lt place (length sets))
+
+some_if : {X : Type 0} (o : Option X) (P : X → Type 0) → IsSomeAnd o P → IfSome o P
+some_if (Some x) P h = h
+some_if None P h = absurd h
+
+-- what each set answers, looked at in turn until one has a number
+module _ {S F : Type 0} {steps : S → Option (Bor NumberSet) → S → Type 0} (g : Mut F (Bor NumberSet × Unit {0}) (Option ℕ)) (f : F) (sets : List NumberSet) (p : Run steps) (items : ItemsMapTo p (λ y. y.now) sets) (keeps : CallKeepsClosure g f) (says : (x : Bor NumberSet) (r : Option ℕ) → Called g f (x, tt) r f → LowestAnswer (holds x.now) r) where
+  answers_at : (place : ℕ) (r : Option ℕ) → place < p.len → IfSome (p.at place) (λ x. Called g f (x, tt) r f) → LowestAnswer (held_at sets place) r
+  answers_at place r h = go (p.at place) (items.2 place no_set h)
+    where
+      go : (o : Option (Bor NumberSet)) → option_map (λ y. y.now) o ≡ Some (get_or sets place no_set) → IfSome o (λ x. Called g f (x, tt) r f) → LowestAnswer (held_at sets place) r
+      go (Some x) e c = subst (λ (s : NumberSet). LowestAnswer (holds s) r) (same_Some _ _ e) (says x r c)
+      go None e c = absurd (none-some _ e)
+
+  pub first_of_run : (r : Option ℕ) → MatchOption r ((p.whole ≡ true) × AllItemsGive p g f None) (λ y. (i : ℕ) × (i < p.len) × (p.len ≡ i + 1) × IsFirstToGive p g f (Some y) None i)
+      → FirstAnswer sets r
+  first_of_run None h = none_anywhere sets (λ place l. answers_at place None (omega (arith, items.1 h.0)) (h.1 keeps place))
+  first_of_run (Some n) h =
+      let found = h.3 keeps in
+      record {
+        place = h.0;
+        earlier = λ c l. answers_at c None (omega (arith, h.1)) (some_if (p.at c) _ (found.1 c l));
+        lowest = answers_at h.0 (Some n) h.1 (some_if (p.at h.0) _ found.0);
+      }
 
 pub none_own : (cs : List ℕ) (sets : List NumberSet) → ((place : ℕ) → Empty (held_at sets place)) → OwnClass cs sets
 none_own cs sets none place k e = absurd (both_ways (held_at sets place k) (none place k) e)
@@ -113,53 +129,49 @@ module _ (cs : List ℕ) (sets : List NumberSet) (own : OwnClass cs sets) where
   pub next_number : (n : ℕ) → LowestOfFirst sets n → Next cs (waits_in cs sets) n
   next_number n found = lowest_next found.place n found.earlier found.lowest
 
--- the set of one class changes
-module _ (cs : List ℕ) (sets : List NumberSet) (p : ℕ) (s : NumberSet) (there : p < length sets) where
-  changed_here : (k : ℕ) → held_at (set sets p s) p k ≡ holds s k
-  changed_here k = ap (λ x. holds x k) (get_or-set_same sets p s no_set there)
+  -- so it is one of the list, and has a class
+  pub next_class : (n : ℕ) → LowestOfFirst sets n → all_classes cs ≡ true → (n < length cs) × (class_of cs n ≡ suc (class_of cs n - 1)) × (class_of cs n ≤ max_class)
+  next_class n found fine =
+      let class = own (class_of cs n - 1) n (next_number n found).waits in
+      let there = classed_below cs n (class_of cs n - 1) class in
+      (there, class, (class_at cs n fine there).1)
+
+-- the set of a class p is written, in which n is: P says of each number whether it is there then, and it keeps what is not n
+module _ (cs : List ℕ) (sets : List NumberSet) (p : ℕ) (s d : NumberSet) (there : p < length sets) (n : ℕ) (class : class_of cs n ≡ suc p) (P : Bool → Bool → Bool) (keeps : (b : Bool) → P b false ≡ b) (now : (k : ℕ) → holds s k ≡ P (holds (get_or sets p d) k) (eqb k n)) where
+  changed_here : (k : ℕ) → held_at (set sets p s) p k ≡ P (held_at sets p k) (eqb k n)
+  changed_here k = ap (λ x. holds x k) (get_or-set_same sets p s no_set there) ∙ now k ∙ ap (λ x. P (holds x k) (eqb k n)) (get_or_default sets p d no_set there)
 
   changed_elsewhere : (c k : ℕ) → (c ≡ p → ⊥) → held_at (set sets p s) c k ≡ held_at sets c k
   changed_elsewhere c k ne = ap (λ x. holds x k) (get_or-set_other sets p c s no_set ne)
 
-  pub marked_changed : ((c : ℕ) → Marked (get_or sets c no_set)) → Marked s → (c : ℕ) → Marked (get_or (set sets p s) c no_set)
-  marked_changed marked here c =
-      ⊎_elim (λ e. subst (λ (i : ℕ). Marked (get_or (set sets p s) i no_set)) (sym e) (subst Marked (sym (get_or-set_same sets p s no_set there)) here))
-      (λ ne. subst Marked (sym (get_or-set_other sets p c s no_set ne)) (marked c)) (cases_eq c p)
+  waits_changed : (k : ℕ) → waits_in cs (set sets p s) k ≡ P (waits_in cs sets k) (eqb k n)
+  waits_changed k = ⊎_elim here elsewhere (cases_eq (class_of cs k - 1) p)
+    where
+      here : class_of cs k - 1 ≡ p → waits_in cs (set sets p s) k ≡ P (waits_in cs sets k) (eqb k n)
+      here at = ap (λ x. held_at (set sets p s) x k) at ∙ changed_here k ∙ ap (λ x. P (held_at sets x k) (eqb k n)) (sym at)
 
-  module _ (own : OwnClass cs sets) (n : ℕ) (class : class_of cs n ≡ suc p) where
-    other_class : (k : ℕ) → (class_of cs k - 1 ≡ p → ⊥) → eqb k n ≡ false
-    other_class k ne = ne_eqb k n (λ e. ne (omega (arith, ap (class_of cs) e)))
+      elsewhere : (class_of cs k - 1 ≡ p → ⊥) → waits_in cs (set sets p s) k ≡ P (waits_in cs sets k) (eqb k n)
+      elsewhere ne =
+          changed_elsewhere (class_of cs k - 1) k ne ∙ sym (keeps (waits_in cs sets k))
+          ∙ ap (P (waits_in cs sets k)) (sym (ne_eqb k n (λ e. ne (omega (arith, class, ap (class_of cs) e)))))
 
-    pub own_more : With n (held_at sets p) (holds s) → OwnClass cs (set sets p s)
-    own_more more c k e = ⊎_elim here (λ ne. own c k (sym (changed_elsewhere c k ne) ∙ e)) (cases_eq c p)
-      where
-        here : c ≡ p → class_of cs k ≡ suc c
-        here at =
-            ⊎_elim (λ h. own c k (ap (λ x. held_at sets x k) at ∙ h)) (λ h. ap (class_of cs) (eqb-true k n h) ∙ class ∙ ap suc (sym at))
-            (or_cases (held_at sets p k) (eqb k n) (sym (more k) ∙ sym (changed_here k) ∙ ap (λ x. held_at (set sets p s) x k) (sym at) ∙ e))
+  own_changed : ((b e : Bool) → P b e ≡ true → (b ≡ true) ⊎ (e ≡ true)) → OwnClass cs sets → OwnClass cs (set sets p s)
+  own_changed splits own c k e = ⊎_elim here (λ ne. own c k (sym (changed_elsewhere c k ne) ∙ e)) (cases_eq c p)
+    where
+      here : c ≡ p → class_of cs k ≡ suc c
+      here at =
+          ⊎_elim (λ h. own c k (ap (λ x. held_at sets x k) at ∙ h)) (λ h. ap (class_of cs) (eqb-true k n h) ∙ class ∙ ap suc (sym at))
+          (splits (held_at sets p k) (eqb k n) (sym (changed_here k) ∙ ap (λ x. held_at (set sets p s) x k) (sym at) ∙ e))
 
-    pub own_less : But n (held_at sets p) (holds s) → OwnClass cs (set sets p s)
-    own_less less c k e = ⊎_elim here (λ ne. own c k (sym (changed_elsewhere c k ne) ∙ e)) (cases_eq c p)
-      where
-        here : c ≡ p → class_of cs k ≡ suc c
-        here at =
-            own c k (ap (λ x. held_at sets x k) at
-            ∙ (and_parts (held_at sets p k) (not (eqb k n)) (sym (less k) ∙ sym (changed_here k) ∙ ap (λ x. held_at (set sets p s) x k) (sym at) ∙ e)).0)
+module _ (cs : List ℕ) (sets : List NumberSet) (p : ℕ) (s d : NumberSet) (there : p < length sets) (n : ℕ) (class : class_of cs n ≡ suc p) where
+  pub waits_more : With n (holds (get_or sets p d)) (holds s) → With n (waits_in cs sets) (waits_in cs (set sets p s))
+  waits_more more = waits_changed cs sets p s d there n class (λ a b. a || b) or-false more
 
-    pub waits_more : With n (held_at sets p) (holds s) → With n (waits_in cs sets) (waits_in cs (set sets p s))
-    waits_more more k = ⊎_elim here elsewhere (cases_eq (class_of cs k - 1) p)
-      where
-        here : class_of cs k - 1 ≡ p → waits_in cs (set sets p s) k ≡ (waits_in cs sets k || eqb k n)
-        here at = ap (λ x. held_at (set sets p s) x k) at ∙ changed_here k ∙ more k ∙ ap (λ x. held_at sets x k || eqb k n) (sym at)
+  pub own_more : With n (holds (get_or sets p d)) (holds s) → OwnClass cs sets → OwnClass cs (set sets p s)
+  own_more more = own_changed cs sets p s d there n class (λ a b. a || b) or-false more or_cases
 
-        elsewhere : (class_of cs k - 1 ≡ p → ⊥) → waits_in cs (set sets p s) k ≡ (waits_in cs sets k || eqb k n)
-        elsewhere ne = changed_elsewhere (class_of cs k - 1) k ne ∙ sym (ap (λ x. waits_in cs sets k || x) (other_class k ne) ∙ or-false (waits_in cs sets k))
+  pub waits_less : But n (holds (get_or sets p d)) (holds s) → But n (waits_in cs sets) (waits_in cs (set sets p s))
+  waits_less less = waits_changed cs sets p s d there n class (λ a b. a && not b) and-true less
 
-    pub waits_less : But n (held_at sets p) (holds s) → But n (waits_in cs sets) (waits_in cs (set sets p s))
-    waits_less less k = ⊎_elim here elsewhere (cases_eq (class_of cs k - 1) p)
-      where
-        here : class_of cs k - 1 ≡ p → waits_in cs (set sets p s) k ≡ (waits_in cs sets k && not (eqb k n))
-        here at = ap (λ x. held_at (set sets p s) x k) at ∙ changed_here k ∙ less k ∙ ap (λ x. held_at sets x k && not (eqb k n)) (sym at)
-
-        elsewhere : (class_of cs k - 1 ≡ p → ⊥) → waits_in cs (set sets p s) k ≡ (waits_in cs sets k && not (eqb k n))
-        elsewhere ne = changed_elsewhere (class_of cs k - 1) k ne ∙ sym (ap (λ x. waits_in cs sets k && not x) (other_class k ne) ∙ and-true (waits_in cs sets k))
+  pub own_less : But n (holds (get_or sets p d)) (holds s) → OwnClass cs sets → OwnClass cs (set sets p s)
+  own_less less = own_changed cs sets p s d there n class (λ a b. a && not b) and-true less (λ b e h. inl (and_parts b (not e) h).0)

@@ -2,7 +2,8 @@
 use Rattle.std.specs.Prelude.{◌≡◌, ℕ, ◌-◌, ◌<◌, Bool, true, not, ◌&&◌, ◌||◌, List, [], ◌∷◌, length, Some, None, Option, MatchOption, ◌==◌, ◌≢◌, nat_le, nat_lt, slice_index, slice_index_or}
 use Rattle.rows.specs.Refusals.{Refusal, plain, fits, first}
 use Rattle.waiting.specs.Waiting.{Numbers, Empty, Same, But, no_capacity}
-use Rattle.waiting.specs.Sets.{holds, LowestOf}
+use Rattle.rows.specs.Words.{holds}
+use Rattle.waiting.specs.Sets.{LowestOf}
 use Rattle.waiting.specs.declared.numbers.NumberSet.{NumberSet}
 
 -- How many classes there are: they are the numbers from 1 to this one.
@@ -42,7 +43,7 @@ MadeClassed cs made s = MatchOption (classes_refusal cs) (made ≡ cs) (λ _. ma
 
 -- A set that is read past the end of a list of sets: it has no number.
 abbrev pub no_set : NumberSet
-no_set = record { words = []; filled = 0 }
+no_set = []
 
 -- The set of a place has a number. The sets are in the order of their classes.
 abbrev pub held_at : List NumberSet → ℕ → Numbers

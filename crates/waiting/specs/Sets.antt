@@ -1,15 +1,11 @@
--- The numbers of a set that is held in words of bits.
-use Rattle.std.specs.Prelude.{◌≡◌, ℕ, ◌/◌, ◌%◌, ◌<◌, true, false, not, Some, None, Option, ◌==◌, slice_index}
-use Rattle.rows.specs.Choices.{stands, choices}
+-- Sets in words of bits that are not 0 where they are marked, and the lowest number of a set.
+use Rattle.std.specs.Prelude.{◌≡◌, ℕ, ◌<◌, true, false, not, Some, None, Option, ◌==◌, slice_index}
+use Rattle.rows.specs.Choices.{stands}
 use Rattle.waiting.specs.Waiting.{Numbers, Empty}
-use Rattle.waiting.specs.declared.numbers.NumberSet.{NumberSet}
-
--- The numbers of a set: each has its bit in one of the words.
-abbrev pub holds : NumberSet → Numbers
-holds s k = stands (slice_index s.words (k / choices)) (k % choices)
+use Rattle.waiting.specs.declared.numbers.NumberSet.TheInside.{Inside}
 
 -- Exactly the words that are not 0 are marked as filled.
-abbrev pub Marked : NumberSet → Type 0
+abbrev pub Marked : Inside → Type 0
 Marked s = (w : ℕ) → stands s.filled w ≡ not (slice_index s.words w == 0)
 
 -- v is the lowest number of a set.

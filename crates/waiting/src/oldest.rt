@@ -1,27 +1,27 @@
 // The waiting list that takes the number that has waited longest.
-ghost use Rattle.std.specs.Prelude.{◌≡◌, ℕ, true, false, [], ◌∷◌, slice_index_or};
+ghost use Rattle.std.specs.Prelude.{◌≡◌, ℕ, true, [], ◌∷◌};
 ghost use Rattle.rows.specs.Refusals.{Answer, first};
 ghost use Rattle.waiting.specs.ListRefusals.{list_says};
-ghost use Rattle.waiting.specs.Waiting.{may_have, no_capacity};
+ghost use Rattle.waiting.specs.Waiting.{may_have, no_capacity, PutAnswer};
 ghost use Rattle.waiting.specs.Turns.{among, apart, below, TurnPut, TurnTaken, MadeEmpty};
-ghost use Rattle.waiting.specs.Rings.{order, Steady};
+ghost use Rattle.rows.specs.Words.{holds};
 ghost use Rattle.waiting.specs.Oldest.{lawful_oldest};
 
 use crate::list::{MAX_CAPACITY, WaitingList};
+use crate::numbers::NumberSet;
 use crate::refusal::{ListError, PutError};
 use crate::ring::Ring;
 
-// The numbers that wait, oldest first, and for each number whether it is among them.
+// The numbers that wait, oldest first, and the set of them.
 #[derive(Drop)]
 pub struct OldestFirst {
     capacity: usize,
-    waiting: [bool; MAX_CAPACITY],
+    waiting: NumberSet,
     ring: Ring,
     ghost size: { may_have capacity ≡ true },
-    ghost steady: { Steady ring },
-    ghost once: { apart (order ring) ≡ true },
-    ghost within: { below capacity (order ring) ≡ true },
-    ghost known: { (k : ℕ) → slice_index_or waiting k false ≡ among (order ring) k },
+    ghost once: { apart ring ≡ true },
+    ghost within: { below capacity ring ≡ true },
+    ghost known: { (k : ℕ) → holds waiting k ≡ among ring k },
 }
 
 impl OldestFirst {
@@ -35,83 +35,65 @@ impl OldestFirst {
         Ok(())
     }
 
-    // The empty list of a capacity, or, where the check refuses, of capacity 1.
+    // The empty list of a capacity, or, where the check refuses, of capacity 1. A making cannot refuse, by the rules of the
+    // engine.
     pub fn make(capacity: usize) -> OldestFirst
-        ensures { MadeEmpty capacity result.capacity (order result.ring) }
+        ensures { MadeEmpty capacity result.capacity result.ring }
     {
         let capacity = if Self::check(capacity).is_ok() {
             capacity
         } else {
             1
         };
-        let ring = Ring::new();
         OldestFirst {
             capacity,
-            waiting: [false; MAX_CAPACITY],
-            ring,
+            waiting: NumberSet::new(),
+            ring: Ring::new(),
         }
-    }
-
-    // The capacity.
-    pub fn capacity(&self) -> usize
-        ensures { result ≡ self.now.capacity }
-    {
-        self.capacity
-    }
-
-    // Lets no number wait.
-    pub fn clear(&mut self)
-        ensures { (self.new.capacity ≡ self.old.capacity) × (order self.new.ring ≡ []) }
-    {
-        let none = [false; MAX_CAPACITY];
-        self.waiting = none;
-        self.ring = Ring::new();
-    }
-
-    // Lets a number wait, behind all that do. One that does already keeps its turn.
-    pub fn put(&mut self, number: usize) -> Result<(), PutError>
-        ensures { (self.new.capacity ≡ self.old.capacity) × (TurnPut self.old.capacity (order self.old.ring) number (order self.new.ring) result) }
-    {
-        if number >= self.capacity {
-            return Err(PutError::Number);
-        }
-        if !self.waiting[number] {
-            self.waiting[number] = true;
-            self.ring.push(number as u16);
-        }
-        Ok(())
-    }
-
-    // Takes the number that has waited longest, if any waits.
-    pub fn take(&mut self) -> Option<usize>
-        ensures { (self.new.capacity ≡ self.old.capacity) × (TurnTaken (order self.old.ring) (order self.new.ring) result) }
-    {
-        let number = self.ring.pop()? as usize;
-        self.waiting[number] = false;
-        Some(number)
     }
 }
 
 impl WaitingList for OldestFirst {
     ghost room = { λ l. l.capacity };
 
-    ghost waits = { λ l. among (order l.ring) };
+    ghost waits = { λ l. among l.ring };
 
-    ghost lawful = { λ l. lawful_oldest l.capacity (order l.ring) l.size l.within };
+    ghost lawful = { λ l. lawful_oldest l.capacity l.ring l.size l.within };
 
-    fn capacity(&self) -> usize {
-        OldestFirst::capacity(self)
+    fn capacity(&self) -> usize
+        ensures { result ≡ self.now.capacity }
+    {
+        self.capacity
     }
 
-    fn clear(&mut self) {
-        OldestFirst::clear(self)
+    fn clear(&mut self)
+        ensures { (self.new.capacity ≡ self.old.capacity) × (self.new.ring ≡ []) }
+    {
+        self.waiting = NumberSet::new();
+        self.ring = Ring::new();
     }
 
-    fn put(&mut self, number: usize) -> Result<(), PutError> {
-        OldestFirst::put(self, number)
+    // Lets a number wait, behind all that do. One that does already keeps its turn.
+    fn put(&mut self, number: usize) -> Result<(), PutError>
+        ensures turn { TurnPut self.old.capacity self.old.ring number self.new.ring result }
+        ensures numbers { (self.new.capacity ≡ self.old.capacity) × (PutAnswer self.old.capacity (among self.old.ring) number (among self.new.ring) result) }
+    {
+        if number >= self.capacity {
+            return Err(PutError::Number);
+        }
+        if !self.waiting.has(number) {
+            self.waiting.put(number);
+            self.ring.push(number as u16);
+        }
+        Ok(())
     }
 
-    fn take(&mut self) -> Option<usize> {
-        OldestFirst::take(self)
+    // Takes the number that has waited longest, if any waits.
+    fn take(&mut self) -> Option<usize>
+        ensures { (self.new.capacity ≡ self.old.capacity) × (TurnTaken self.old.ring self.new.ring result) }
+    {
+        let number = self.ring.pop()? as usize;
+        self.waiting.remove(number);
+        Some(number)
     }
 }

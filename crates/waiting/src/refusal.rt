@@ -1,7 +1,7 @@
 // Why a waiting list refuses.
 ghost use Rattle.waiting.specs.ListRefusals.{list_says, put_says};
 
-use rows::refusal::Numbered;
+use rows::refusal::{Numbered, Refused};
 
 // Why a waiting list cannot be made.
 #[derive(Clone, Copy, PartialEq, Eq, Debug)]
@@ -15,15 +15,11 @@ pub enum ListError {
 impl Numbered for ListError {
     ghost says = { list_says };
 
-    fn number(&self) -> u32 {
-        match self {
+    fn refused(&self) -> Refused {
+        Refused::plain(match self {
             ListError::Capacity => 19,
             ListError::Class => 20,
-        }
-    }
-
-    fn value(&self, _index: usize) -> Option<usize> {
-        None
+        })
     }
 }
 
@@ -37,15 +33,9 @@ pub enum PutError {
 impl Numbered for PutError {
     ghost says = { put_says };
 
-    fn number(&self) -> u32 {
-        match self {
+    fn refused(&self) -> Refused {
+        Refused::plain(match self {
             PutError::Number => 21,
-        }
-    }
-
-    fn value(&self, _index: usize) -> Option<usize> {
-        match self {
-            PutError::Number => None,
-        }
+        })
     }
 }

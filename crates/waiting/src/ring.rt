@@ -1,11 +1,13 @@
 // A ring of numbers, to which they come at the end and from which they go at the front.
-ghost use Rattle.std.specs.Prelude.{◌≡◌, ◌<◌, [], ◌∷◌, ◌++◌};
-ghost use Rattle.waiting.specs.Rings.{slots_there, order, Steady};
+ghost use Rattle.std.specs.Prelude.{◌≡◌, ◌<◌, [], ◌∷◌, ◌++◌, length};
+ghost use Rattle.waiting.specs.Waiting.{max_capacity};
 ghost use Rattle.waiting.specs.Turns.{TurnTaken};
 
 use crate::list::MAX_CAPACITY;
+use std::marker::Model;
 
-// A ring: as many of its slots as its length are in use, from the first on; after the last slot comes slot 0.
+// A ring: as many of its slots as its length are in use, from the first on; after the last slot comes slot 0. Slots and a length, and no
+// `VecDeque`, since the engine allocates nothing.
 #[derive(Drop)]
 pub(crate) struct Ring {
     slots: [u16; MAX_CAPACITY],
@@ -13,10 +15,23 @@ pub(crate) struct Ring {
     len: usize,
 }
 
+// It is seen as the list of its numbers, from the front to the end.
+impl Model for Ring {
+    ghost use Rattle.std.specs.Prelude.{List, ℕ};
+
+    ghost Value = { List ℕ };
+
+    ghost use Rattle.waiting.specs.Rings.{order, Steady};
+
+    ghost view = { order };
+
+    ghost invariant = { Steady };
+}
+
 impl Ring {
     // The ring with no number.
     pub(crate) fn new() -> Ring
-        ensures { (Steady result) × (order result ≡ []) }
+        ensures { result ≡ [] }
     {
         Ring {
             slots: [0; MAX_CAPACITY],
@@ -27,8 +42,8 @@ impl Ring {
 
     // Adds a number at the end.
     pub(crate) fn push(&mut self, number: u16)
-        requires { (Steady self.old) × (self.old.len < slots_there) }
-        ensures { (Steady self.new) × (order self.new ≡ order self.old ++ number ∷ []) }
+        requires { length self.old < max_capacity }
+        ensures { self.new ≡ self.old ++ number ∷ [] }
     {
         let last = (self.first + self.len) % MAX_CAPACITY;
         self.slots[last] = number;
@@ -37,8 +52,7 @@ impl Ring {
 
     // Takes the number at the front.
     pub(crate) fn pop(&mut self) -> Option<u16>
-        requires { Steady self.old }
-        ensures { (Steady self.new) × (TurnTaken (order self.old) (order self.new) result) }
+        ensures { TurnTaken self.old self.new result }
     {
         if self.len == 0 {
             return None;

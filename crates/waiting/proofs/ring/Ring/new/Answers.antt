@@ -1,6 +1,5 @@
-use Rattle.std.proofs.Common.{arith}
 use Rattle.waiting.proofs.Ringing.{none_in_turn}
 use Rattle.waiting.proofs.ring.Ring.new.Goals as goal
 
 pub returns : goal.returns
-returns c = (omega arith, none_in_turn _ 0)
+returns c = none_in_turn _ 0
