@@ -1,13 +1,14 @@
 -- What the calls of banks and lists answer, where they are accepted.
-use Rattle.std.proofs.Common.{◌≡◌, ℕ, ◌<◌, ◌≤◌, List, [], ◌∷◌, length, Some, None, Ok, Err, Option, Result, sym, ap, ◌∙◌, ⊎_elim, arith}
+use Rattle.std.proofs.Common.{◌≡◌, ℕ, ◌<◌, ◌≤◌, List, [], ◌∷◌, length, Some, None, Ok, Err, Option, Result, sym, ap, ◌∙◌, ⊎_elim, arith, rules}
+use Rattle.std.specs.Result.{result_unwrap_or}
 use Rattle.std.proofs.lemmas.List.{get_or_past}
 use Rattle.std.proofs.lemmas.Bool.{cases_lt}
 use Rattle.rows.specs.Refusals.{Refusal, plain, first, Answer}
 use Rattle.rows.proofs.Refusing.{first_past, first_none, some_not_none, le_fits_not, not_le_from}
-use Rattle.banks.specs.Calls.{call_says, rule_at, no_such_rule, no_such_place, Shows, SupportAnswer}
+use Rattle.banks.specs.Calls.{call_says, rule_at, no_such_rule, no_such_place, Shows, ArityAnswer, RowAnswer, SupportAnswer}
 use Rattle.banks.specs.Lawful.{Lawful}
 use Rattle.banks.specs.Names.{max_arity}
-use Rattle.banks.specs.Rules.{Sheet, Rule, arity}
+use Rattle.banks.specs.Rules.{Sheet, Rule, arity, named}
 use Rattle.banks.specs.declared.refusal.CallError.{CallError}
 use Rattle.banks.proofs.Calling.{support_reasons, none_refused}
 
@@ -41,3 +42,20 @@ pub support_shown : (w : ℕ) (Rs : List Rule) (k : ℕ) (s : Sheet) (before aft
     → k < length Rs → w ≤ length s → SupportAnswer w Rs k s before after r → Shows s (rule_at Rs k) before after
 support_shown w Rs k s before after r lawful long h enough answer =
     (accepted call_says _ (after ≡ before) (λ _. Shows s (rule_at Rs k) before after) r (sym (support_reasons w Rs lawful k s before long) ∙ none_refused w Rs k s h enough) answer).1
+
+-- the arity that is answered is that of the rule, and a rule that is not there names no row
+pub places : (Rs : List Rule) (k : ℕ) (r : Result ℕ CallError) → ArityAnswer Rs k r → result_unwrap_or r 0 ≡ arity (rule_at Rs k)
+places Rs k (Ok a) answer = answer.1
+places Rs k (Err f) answer =
+    ⊎_elim (λ h. absurd (some_not_none _ (call_says f) answer.0 (first_past (no_such_rule Rs k) [] (le_fits_not (length Rs) k (plain 22) h))))
+    (λ h. sym (ap length (names_past Rs k h))) (cases_lt k (length Rs))
+
+-- and the row that is answered at a place tells which row is there
+module _ (Rs : List Rule) (k p row : ℕ) where
+  pub found : (r : Result ℕ CallError) → RowAnswer Rs k p r → r ≡ Ok row → (p < arity (rule_at Rs k)) × (named (rule_at Rs k) p ≡ row)
+  found (Ok r) answer e = ((placed Rs k p answer.0).1, cc)
+  found (Err f) answer e = absurd (search (rules, e))
+
+  pub missed : (r : Result ℕ CallError) → RowAnswer Rs k p r → p < arity (rule_at Rs k) → named (rule_at Rs k) p ≡ row → r ≡ Ok row
+  missed (Ok r) answer h e = ap Ok (answer.1 ∙ e)
+  missed (Err f) answer h e = absurd (omega (arith, h, not_placed Rs k p _ answer.0))

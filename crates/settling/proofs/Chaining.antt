@@ -1,7 +1,6 @@
 -- What a chain of strikes keeps: it goes down, empties no row, and stays above every supported sheet.
-use Rattle.std.proofs.Common.{◌≡◌, ℕ, ◌<◌, true, List, length, sym, ◌∙◌, subst, ⊎_elim, arith}
+use Rattle.std.proofs.Common.{◌≡◌, ℕ, ◌<◌, true, List, length, sym, ◌∙◌, subst, arith}
 use Rattle.std.proofs.ByRecursion.{All-get_or}
-use Rattle.std.proofs.lemmas.Bool.{cases_eq}
 use Rattle.rows.specs.Choices.{stands}
 use Rattle.rows.proofs.Masks.{without_stood, without_stays}
 use Rattle.banks.specs.Calls.{rule_at}
@@ -15,20 +14,14 @@ use Rattle.settling.proofs.Supporting.{under_self, under_trans, support_above}
 module _ (r : ℕ) (s t : Sheet) (e : Elsewhere r s t) where
   -- one lies under the other where it does so in that row
   pub elsewhere_under : ((v : ℕ) → stands (row t r) v ≡ true → stands (row s r) v ≡ true) → Under t s
-  elsewhere_under part = record { same = e.same; part = λ k v. ⊎_elim (here k v) (λ ne. subst (λ m. stands m v ≡ true) (e.other k ne)) (cases_eq k r) }
-    where
-      here : (k v : ℕ) → k ≡ r → stands (row t k) v ≡ true → stands (row s k) v ≡ true
-      here k v at = subst (λ x. stands (row t x) v ≡ true → stands (row s x) v ≡ true) (sym at) (part v)
+  elsewhere_under part = record { same = e.same; part = λ k v on. grind (arith, part v, e.other k) }
 
   -- what lies under the one lies under the other where it does so in that row
   pub elsewhere_above : (c : Sheet) → Under c s → ((v : ℕ) → stands (row c r) v ≡ true → stands (row t r) v ≡ true) → Under c t
   elsewhere_above c under part = record {
     same = under.same ∙ sym e.same;
-    part = λ k v. ⊎_elim (here k v) (λ ne on. subst (λ m. stands m v ≡ true) (sym (e.other k ne)) (under.part k v on)) (cases_eq k r);
+    part = λ k v on. grind (arith, part v, e.other k, under.part k v on);
   }
-    where
-      here : (k v : ℕ) → k ≡ r → stands (row c k) v ≡ true → stands (row t k) v ≡ true
-      here k v at = subst (λ x. stands (row c x) v ≡ true → stands (row t x) v ≡ true) (sym at) (part v)
 
 -- a rule of a list supports a sheet that the list supports
 pub rule_supports : (Rs : List Rule) (c : Sheet) (k : ℕ) → Supported c Rs → k < length Rs → SupportedBy c (rule_at Rs k)
@@ -42,8 +35,7 @@ module _ (Rs : List Rule) (s t : Sheet) (strike : StrikesUnsupported Rs s t) whe
 
   strike_rows : NoRowEmpty s → NoRowEmpty t
   strike_rows full k h =
-      ⊎_elim (λ at. subst (λ x. 0 < row t x) (sym at) strike.not_last)
-      (λ ne. subst (λ m. 0 < m) (sym (strike.elsewhere.other k ne)) (full k (omega (arith, strike.elsewhere.same)))) (cases_eq k strike.where_row)
+      let was = full k (omega (arith, strike.elsewhere.same)) in grind (arith, strike.not_last, strike.elsewhere.other k, was)
 
   -- a supported sheet does not have the choice that is struck
   strike_above : (c : Sheet) → Supported c Rs → Under c s → Under c t

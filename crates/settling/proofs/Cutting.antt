@@ -3,7 +3,7 @@ use Rattle.std.proofs.Common.{◌≡◌, ℕ, zero, suc, ◌^◌, ◌<◌, ◌�
 use lib.Bits.{bit_xor, xor_lt}
 use lib.Pow.{pow-lt}
 use Rattle.std.proofs.lemmas.List.{ext_get_or, get_or-set_same, get_or-set_other, length-set}
-use Rattle.std.proofs.lemmas.Bool.{cases_Bool, cases_eq, both_ways, and_parts, and_from}
+use Rattle.std.proofs.lemmas.Bool.{cases_Bool}
 use Rattle.rows.specs.Choices.{choices, stands, Without}
 use Rattle.rows.proofs.Masks.{stands_high, same_mask, some_stands, not_zero, taken_out, without_stood, without_stays}
 use Rattle.banks.specs.Calls.{rule_at}
@@ -29,8 +29,8 @@ pub cuts_from : (seen : Sheet) (R : Rule) (p wanted : ℕ) (s t : Sheet) (stroke
 cuts_from seen R p wanted s t strokes strokes' h shows n = record {
   placed = h;
   elsewhere = n.elsewhere;
-  part = λ v on. (and_parts (stands (row s (named R p)) v) (stands wanted v) (sym (n.here v) ∙ on)).0;
-  only = λ v struck sup. both_ways (stands (row t (named R p)) v) struck.1 (n.here v ∙ and_from (stands (row s (named R p)) v) (stands wanted v) struck.0 ((shows v).1 sup));
+  part = λ v on. grind (arith, n.here v);
+  only = λ v struck sup. let shown = (shows v).1 sup in grind (arith, n.here v, struck.0, struck.1);
 }
 
 -- a sheet with one choice of a row taken out
@@ -54,7 +54,7 @@ module _ (s : Sheet) (r v : ℕ) (inside : r < length s) where
 same_sheet : (r : ℕ) (s t : Sheet) → Elsewhere r s t → row s r < 2 ^ choices → row t r < 2 ^ choices → ((v : ℕ) → stands (row s r) v ≡ stands (row t r) v) → s ≡ t
 same_sheet r s t e a b h =
     ext_get_or 0 s t (sym e.same)
-    (λ k _. ⊎_elim (λ at. subst (λ x. row s x ≡ row t x) (sym at) (same_mask choices (row s r) (row t r) a b h)) (λ ne. sym (e.other k ne)) (cases_eq k r))
+    (λ k _. grind (arith, same_mask choices (row s r) (row t r) a b h, e.other k))
 
 module _ (Rs : List Rule) (k : ℕ) (listed : k < length Rs) (seen : Sheet) (p : ℕ) (t : Sheet) (bound : row t (named (rule_at Rs k) p) < 2 ^ choices)
     (left : 0 < row t (named (rule_at Rs k) p)) where
@@ -71,8 +71,7 @@ module _ (Rs : List Rule) (k : ℕ) (listed : k < length Rs) (seen : Sheet) (p :
 
     stays : (w : ℕ) → stands (row t r) w ≡ true → stands (row (less s r v) r) w ≡ true
     stays w on =
-        without_stays (row s r) v (row (less s r v) r) w taken (cuts.part w on)
-        (λ e. both_ways (stands (row t r) v) struck.1 (subst (λ x. stands (row t r) x ≡ true) e on))
+        without_stays (row s r) v (row (less s r v) r) w taken (cuts.part w on) (λ e. grind (arith, struck.1))
 
     strike : StrikesUnsupported Rs s (less s r v)
     strike = record {
@@ -102,8 +101,7 @@ module _ (Rs : List Rule) (k : ℕ) (listed : k < length Rs) (seen : Sheet) (p :
     -- from this choice on nothing is left to be cut, if that was so above it
     rest_above : ((w : ℕ) → suc v ≤ w → stands (row s r) w ≡ stands (row t r) w) → (w : ℕ) → v ≤ w → stands (row (less s r v) r) w ≡ stands (row t r) w
     rest_above above w h =
-        ⊎_elim (λ e. subst (λ x. stands (row (less s r v) r) x ≡ stands (row t r) x) (sym e) (but_here (stands (row s r)) (stands (row (less s r v) r)) v taken ∙ sym struck.1))
-        (λ ne. but_other (stands (row s r)) (stands (row (less s r v) r)) v taken w ne ∙ above w (omega arith)) (cases_eq w v)
+        grind (arith, but_here (stands (row s r)) (stands (row (less s r v) r)) v taken, struck.1, but_other (stands (row s r)) (stands (row (less s r v) r)) v taken w, above w)
 
   -- the choices below n are still to be looked at
   strikes : (s₀ : Sheet) (n : ℕ) (s : Sheet) → n ≤ choices → Cuts seen R p s t → Under s seen → r < length s → row s r < 2 ^ choices
@@ -115,13 +113,12 @@ module _ (Rs : List Rule) (k : ℕ) (listed : k < length Rs) (seen : Sheet) (p :
       (under_trans (less s r n) s seen (strike_under Rs s (less s r n) (strike s cuts below inside n struck)) below)
       (omega (arith, (less_elsewhere s r n inside).same)) (less_bounded s r n inside b (omega arith)) (rest_above s cuts below inside n struck same)
       (◌then◌ chain (strike s cuts below inside n struck)))
-      (λ stays. strikes s₀ n s (omega arith) cuts below inside b (λ w l. ⊎_elim (λ e. subst (λ x. stands (row s r) x ≡ stands (row t r) x) (sym e) stays) (λ ne. same w (omega arith)) (cases_eq w n)) chain)
+      (λ stays. strikes s₀ n s (omega arith) cuts below inside b (λ w l. grind (arith, stays, same w)) chain)
       (looked s n cuts)
     where
       looked : (s : Sheet) (v : ℕ) → Cuts seen R p s t → Struck s t r v ⊎ (stands (row s r) v ≡ stands (row t r) v)
       looked s v cuts =
-          ⊎_elim (λ on. inr (cuts.part v on ∙ sym on))
-          (λ off. ⊎_elim (λ stood. inl (stood, off)) (λ never. inr (never ∙ sym off)) (cases_Bool (stands (row s r) v))) (cases_Bool (stands (row t r) v))
+          ⊎_elim (λ on. inr (cuts.part v on ∙ sym on)) (λ off. ⊎_elim (λ stood. inl (stood, off)) (λ never. inr (never ∙ sym off)) (cases_Bool (stands (row s r) v))) (cases_Bool (stands (row t r) v))
 
   -- so the cut makes a chain longer
   pub chain_cut : (s₀ s : Sheet) → Cuts seen R p s t → Under s seen → r < length s → row s r < 2 ^ choices → Chain Rs s₀ s → Chain Rs s₀ t

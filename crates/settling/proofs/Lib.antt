@@ -3,7 +3,6 @@ pub mod Asking
 pub mod Chaining
 pub mod Cutting
 pub mod Ending
-pub mod Listing
 pub mod Looping
 pub mod Recording
 pub mod Revising

@@ -8,8 +8,8 @@ use Rattle.waiting.specs.Waiting.{Numbers, But, how_many, max_capacity}
 use Rattle.waiting.proofs.Changing.{but_other}
 use Rattle.waiting.proofs.Measuring.{many_take, many_same, many_le}
 use Rattle.settling.specs.Loop.{Filled, Strikes, RowsStay, Advance}
+use Rattle.settling.specs.States.{State}
 use Rattle.settling.proofs.Advancing.{strikes_none, strikes_more, strikes_falls}
-use Rattle.settling.proofs.Chaining.{chain_under}
 use Rattle.settling.proofs.Ending.{Revised}
 use Rattle.settling.proofs.Supporting.{supported_like}
 
@@ -25,40 +25,37 @@ revised_more Rs waits waits' k seen s revised here others j h e =
     ⊎_elim (λ at. subst (λ i. SupportedBy s (rule_at Rs i)) (sym at) here)
     (λ ne. let o = others j h e ne in supported_like seen s (rule_at Rs j) o.1 (revised j h o.0)) (cases_eq j k)
 
--- strikes have led here, every rule that does not wait supports the sheet, and only rules wait
-pub record Looping (Rs : List Rule) (s₀ s : Sheet) (a b : List ℕ) (waits : Numbers) : Type 0 where
-  pub strikes : Strikes Rs s₀ s a b
-  pub revised : Revised Rs waits s
-  pub listed : (k : ℕ) → waits k ≡ true → k < length Rs
+-- strikes have led from x to y, every rule that does not wait supports the sheet, and only rules wait
+pub record Looping (Rs : List Rule) (x y : State) : Type 0 where
+  pub strikes : Strikes Rs x.rows y.rows x.strokes y.strokes
+  pub revised : Revised Rs y.waits y.rows
+  pub listed : (k : ℕ) → y.waits k ≡ true → k < length Rs
 
 -- what is left to do: choices that can be struck, and rules that wait
-abbrev pub work : Sheet → Numbers → ℕ → ℕ
-work s waits room = standing s * suc max_capacity + how_many waits room
+abbrev pub work : State → ℕ → ℕ
+work x room = standing x.rows * suc max_capacity + how_many x.waits room
 
 module _ (Rs : List Rule) where
-  pub looping_none : (s : Sheet) (a : List ℕ) (waits : Numbers) → Filled (length Rs) waits → Looping Rs s s a a waits
-  looping_none s a waits filled = record {
-    strikes = strikes_none Rs s a;
-    revised = revised_none Rs waits s (λ k h. filled k ∙ lt-ltb k (length Rs) h);
+  pub looping_none : (x : State) → Filled (length Rs) x.waits → Looping Rs x x
+  looping_none x filled = record {
+    strikes = strikes_none Rs x.rows x.strokes;
+    revised = revised_none Rs x.waits x.rows (λ k h. filled k ∙ lt-ltb k (length Rs) h);
     listed = λ k on. ltb-true k (length Rs) (sym (filled k) ∙ on);
   }
 
-  -- as many rows
-  pub looping_long : (s₀ s : Sheet) (a b : List ℕ) (waits : Numbers) → Looping Rs s₀ s a b waits → length s ≡ length s₀
-  looping_long s₀ s a b waits x = (chain_under Rs s₀ s x.strikes.chain).same
-
-  -- a rule is taken and revised
-  module _ (s t : Sheet) (b c : List ℕ) (waits waits' waits'' : Numbers) (k : ℕ) (waited : waits k ≡ true) (taken : But k waits waits') (advance : Advance Rs k s t b c waits' waits'') where
-    pub looping_more : (s₀ : Sheet) (a : List ℕ) → SupportedBy t (rule_at Rs k) → Looping Rs s₀ s a b waits → Looping Rs s₀ t a c waits''
-    looping_more s₀ a here x = record {
-      strikes = strikes_more Rs s₀ s t a b c x.strikes advance.strikes;
-      revised = revised_more Rs waits waits'' k s t x.revised here
-          (λ j h off ne. let q = advance.quiet j ne off in (sym (but_other waits waits' k taken j ne) ∙ q.0, q.1));
-      listed = λ j on. ⊎_elim (λ early. x.listed j (and_parts (waits j) (not (eqb j k)) (sym (taken j) ∙ early)).0) (λ h. h) (advance.listed j on);
+  -- a rule is taken and revised: from y, where it waits, to z
+  module _ (y z : State) (waits : Numbers) (k : ℕ) (waited : y.waits k ≡ true) (taken : But k y.waits waits) (advance : Advance Rs k (record y { waits = waits }) z) where
+    pub looping_more : (x : State) → SupportedBy z.rows (rule_at Rs k) → Looping Rs x y → Looping Rs x z
+    looping_more x here l = record {
+      strikes = strikes_more Rs x.rows y.rows z.rows x.strokes y.strokes z.strokes l.strikes advance.strikes;
+      revised = revised_more Rs y.waits z.waits k y.rows z.rows l.revised here
+          (λ j h off ne. let q = advance.quiet j ne off in (sym (but_other y.waits waits k taken j ne) ∙ q.0, q.1));
+      listed = λ j on. ⊎_elim (λ early. l.listed j (and_parts (y.waits j) (not (eqb j k)) (sym (taken j) ∙ early)).0) (λ h. h) (advance.listed j on);
     }
 
     -- less is left to do
-    pub work_less : (room : ℕ) → room ≤ max_capacity → k < room → work t waits'' room < work s waits room
+    pub work_less : (room : ℕ) → room ≤ max_capacity → k < room → work z room < work y room
     work_less room small below =
-        let one : suc (how_many waits' room) ≡ how_many waits room = many_take waits waits' k room below waited taken in
-        ⊎_elim (λ less. omega (arith, many_le waits'' room)) (λ same. omega (arith, many_same waits' waits'' room same, strikes_falls Rs s t b c advance.strikes)) advance.fewer
+        let one : suc (how_many waits room) ≡ how_many y.waits room = many_take y.waits waits k room below waited taken in
+        ⊎_elim (λ less. omega (arith, many_le z.waits room))
+        (λ same. omega (arith, many_same waits z.waits room same, strikes_falls Rs y.rows z.rows y.strokes z.strokes advance.strikes)) advance.fewer

@@ -1,17 +1,15 @@
 -- The record has each struck choice once, and gives back the rows that were.
 use Rattle.std.proofs.Common.{◌≡◌, ℕ, ◌/◌, ◌%◌, ◌<◌, true, List, [], ◌++◌, map, Decides, sym, refl, ap, ◌∙◌, subst, ⊎_elim, arith}
-use Rattle.std.proofs.lemmas.Bool.{cases_Bool, cases_eq, both_ways, or_left, or_right, false≢true}
+use Rattle.std.proofs.lemmas.Bool.{cases_Bool, both_ways, false≢true}
 use Rattle.std.proofs.lemmas.Bool.Decides.{Decides-like}
 use Rattle.rows.specs.Choices.{choices, stands}
 use Rattle.banks.specs.Names.{among, apart}
 use Rattle.banks.specs.Rules.{Sheet, row, Under}
-use Rattle.trail.specs.Strokes.{stroke, Struck, lost, strokes_of, restored, Elsewhere}
+use Rattle.trail.specs.Strokes.{stroke, Struck, lost, strokes_of, Elsewhere}
 use Rattle.trail.proofs.Listing.{not_among, among_append, among_either, apart_append, among_map, map_among, apart_map}
-use Rattle.trail.proofs.Members.{apart_lost}
+use Rattle.trail.proofs.Members.{apart_lost, among_lost}
 use Rattle.trail.proofs.Restoring.{stroke_row, stroke_choice, stroke_back}
 use Rattle.settling.specs.Settling.{EachOnce}
-pub use Rattle.trail.proofs.Members.{among_members, apart_members, among_lost}
-pub use Rattle.trail.proofs.Restoring.{restored_append}
 
 -- nothing struck
 pub each_once_none : (s : Sheet) → EachOnce s s []
@@ -35,9 +33,7 @@ module _ (r : ℕ) (s t : Sheet) (elsewhere : Elsewhere r s t) where
       -- a row that does not differ has no struck choice
       here : (e : ℕ) → Struck s t (e / choices) (e % choices) → e / choices ≡ r
       here e st =
-          ⊎_elim (λ at. at)
-          (λ ne. absurd (both_ways (stands (row t (e / choices)) (e % choices)) st.1 (ap (λ m. stands m (e % choices)) (elsewhere.other (e / choices) ne) ∙ st.0)))
-          (cases_eq (e / choices) r)
+          grind (arith, st.0, st.1, elsewhere.other (e / choices))
 
       listed : (e : ℕ) → Struck s t (e / choices) (e % choices) → among e (map (stroke r) xs) ≡ true
       listed e st =
@@ -57,23 +53,18 @@ pub each_once_more : (s t u : Sheet) (es fs : List ℕ) → Under t s → Under 
 each_once_more s t u es fs low lower a b = record {
   exact = λ e. (
     (λ h. ⊎_elim (early e) (late e) (among_either e es fs h)),
-    (λ st. among_append e es fs ∙ ⊎_elim (λ on. or_right (among e es) (among e fs) ((b.exact e).1 (on, st.1)))
-        (λ off. or_left (among e es) (among e fs) ((a.exact e).1 (st.0, off))) (cases_Bool (stands (row t (e / choices)) (e % choices)))),
+    (λ st. ⊎_elim (λ on. let late = (b.exact e).1 (on, st.1) in grind (arith, among_append e es fs))
+        (λ off. let early = (a.exact e).1 (st.0, off) in grind (arith, among_append e es fs)) (cases_Bool (stands (row t (e / choices)) (e % choices)))),
   );
   once = apart_append es fs a.once b.once (λ e h. not_among e fs (λ k. both_ways (stands (row t (e / choices)) (e % choices)) ((a.exact e).0 h).1 ((b.exact e).0 k).0));
 }
   where
     early : (e : ℕ) → among e es ≡ true → Struck s u (e / choices) (e % choices)
     early e h =
-        let st = (a.exact e).0 h in (
-          st.0,
-          ⊎_elim (λ on. absurd (both_ways (stands (row t (e / choices)) (e % choices)) st.1 (lower.part (e / choices) (e % choices) on))) (λ off. off)
-              (cases_Bool (stands (row u (e / choices)) (e % choices))),
-        )
+        let st = (a.exact e).0 h in
+        let r = e / choices in
+        let v = e % choices in
+        (st.0, grind (arith, st.1, lower.part r v))
 
     late : (e : ℕ) → among e fs ≡ true → Struck s u (e / choices) (e % choices)
     late e h = let st = (b.exact e).0 h in (low.part (e / choices) (e % choices) st.0, st.1)
-
--- what was struck last is put back first, so the strokes of two turns give back the first sheet
-pub undone_more : (s₀ s t : Sheet) (es fs : List ℕ) → restored s es ≡ s₀ → restored t fs ≡ s → restored t (es ++ fs) ≡ s₀
-undone_more s₀ s t es fs a b = restored_append t es fs ∙ ap (λ x. restored x es) b ∙ a

@@ -1,12 +1,12 @@
 -- A rule is revised place by place: the rows at the places behind show the support, and those ahead are as they were.
-use Rattle.std.proofs.Common.{◌≡◌, ℕ, ◌+◌, ◌<◌, ◌≤◌, true, List, get_or, sym, refl, ap, ◌∙◌, subst, ⊎_elim, arith, below_more}
+use Rattle.std.proofs.Common.{◌≡◌, ℕ, ◌+◌, ◌<◌, ◌≤◌, true, List, length, get_or, replicate, take, Decides, sym, refl, ap, ◌∙◌, subst, arith, below_more}
 use lib.Bits.{bit_and}
-use Rattle.std.proofs.lemmas.Bool.{cases_Bool, and_from, and_parts, and_right}
+use Rattle.std.proofs.lemmas.List.{get_or_past, get_or-take, length-replicate, length-take-le}
 use Rattle.rows.specs.Choices.{stands}
 use Rattle.rows.proofs.Masks.{stands_and, not_zero}
 use Rattle.banks.specs.Calls.{Shows}
 use Rattle.banks.specs.Names.{apart}
-use Rattle.banks.specs.Rules.{Sheet, Tuple, Rule, row, arity, named, Live, SupportedBy, Under}
+use Rattle.banks.specs.Rules.{Sheet, Tuple, Rule, row, arity, named, Live, SupportAt, SupportedBy, Under}
 use Rattle.trail.specs.Trails.{Narrows}
 use Rattle.trail.proofs.Listing.{apart_get_or}
 use Rattle.settling.proofs.Chaining.{elsewhere_under}
@@ -19,6 +19,14 @@ pub record Revising (seen : Sheet) (R : Rule) (masks : List ℕ) (i : ℕ) (s : 
   pub done : (q v : ℕ) → q < i → stands (row s (named R q)) v ≡ stands (get_or masks q 0) v
   pub ahead : (q : ℕ) → i ≤ q → q < arity R → row s (named R q) ≡ row seen (named R q)
   pub others : (r : ℕ) → ((q : ℕ) → q < arity R → named R q ≡ r → ⊥) → row s r ≡ row seen r
+
+-- the masks of a rule's own places show the same
+pub shows_first : (s : Sheet) (R : Rule) (before after : List ℕ) (n : ℕ) → Shows s R before after → n ≡ arity R → n ≤ length after → Shows s R (replicate (arity R) 0) (take n after)
+shows_first s R before after n shows whole enough = record {
+  long = omega (arith, length-take-le n after enough, length-replicate {A = ℕ} (arity R) 0);
+  exact = λ p v h. subst (λ m. Decides (stands m v) (SupportAt s R p v)) (sym (get_or-take n after p 0 (omega arith))) (shows.exact p v h);
+  beyond = λ p h. get_or_past (take n after) p 0 (omega (arith, length-take-le n after enough)) ∙ sym (get_or_past (replicate (arity R) 0) p 0 (omega (arith, length-replicate {A = ℕ} (arity R) 0)));
+}
 
 module _ (seen : Sheet) (R : Rule) (before masks : List ℕ) (shows : Shows seen R before masks) where
   pub revising_none : Revising seen R masks 0 seen
@@ -41,7 +49,7 @@ module _ (seen : Sheet) (R : Rule) (before masks : List ℕ) (shows : Shows seen
   pub revising_narrowed : (i : ℕ) (s t : Sheet) (strokes strokes' : List ℕ) → apart R.names ≡ true → i < arity R
       → Narrows (named R i) (get_or masks i 0) s t strokes strokes' → Revising seen R masks i s → Revising seen R masks (i + 1) t
   revising_narrowed i s t strokes strokes' distinct h n rev = record {
-    below = under_trans t s seen (elsewhere_under (named R i) s t n.elsewhere (λ v on. (and_parts (stands (row s (named R i)) v) (stands (get_or masks i 0) v) (sym (n.here v) ∙ on)).0)) rev.below;
+    below = under_trans t s seen (elsewhere_under (named R i) s t n.elsewhere (λ v on. grind (arith, n.here v))) rev.below;
     done = λ q v l. below_more (λ q. stands (row t (named R q)) v ≡ stands (get_or masks q 0) v) i (λ k m. ap (λ x. stands x v) (other k (omega arith) (λ e. omega arith)) ∙ rev.done k v m) (exact v) q l;
     ahead = λ q l k. other q k (λ e. omega arith) ∙ rev.ahead q (omega arith) k;
     others = λ r out. n.elsewhere.other r (λ e. out i h (sym e)) ∙ rev.others r out;
@@ -53,9 +61,7 @@ module _ (seen : Sheet) (R : Rule) (before masks : List ℕ) (shows : Shows seen
 
       exact : (v : ℕ) → stands (row t (named R i)) v ≡ stands (get_or masks i 0) v
       exact v =
-          n.here v
-          ∙ ⊎_elim (λ on. and_from (stands (row s (named R i)) v) (stands (get_or masks i 0) v) (shown_part i s h rev v on) on ∙ sym on)
-          (λ off. and_right (stands (row s (named R i)) v) (stands (get_or masks i 0) v) off ∙ sym off) (cases_Bool (stands (get_or masks i 0) v))
+          grind (arith, n.here v, shown_part i s h rev v)
 
   -- some choice is left of a row ahead, where the rule has a live tuple
   pub some_left : (i : ℕ) (s : Sheet) → i < arity R → 0 < get_or masks 0 0 → Revising seen R masks i s → 0 < bit_and (row s (named R i)) (get_or masks i 0)
@@ -65,7 +71,7 @@ module _ (seen : Sheet) (R : Rule) (before masks : List ℕ) (shows : Shows seen
       let v = get_or sup.tuple i 0 in
       let on = (shows.exact i v h).1 (live_supports seen R i sup.tuple h sup.live) in
       not_zero (bit_and (row s (named R i)) (get_or masks i 0)) v
-      (stands_and (row s (named R i)) (get_or masks i 0) v ∙ and_from (stands (row s (named R i)) v) (stands (get_or masks i 0) v) (shown_part i s h rev v on) on)
+      (grind (arith, stands_and (row s (named R i)) (get_or masks i 0) v, shown_part i s h rev v, on))
 
   -- when all places are done, the rule supports the sheet
   pub revising_all : (s : Sheet) → Revising seen R masks (arity R) s → SupportedBy s R

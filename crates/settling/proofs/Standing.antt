@@ -1,40 +1,29 @@
 -- How many choices stand on a sheet: what is struck from a row is exactly what is missing.
-use Rattle.std.proofs.Common.{◌≡◌, ℕ, suc, ◌+◌, ◌^◌, ◌<◌, ◌≤◌, true, List, [], ◌∷◌, ◌++◌, length, set, sym, refl, ap, ◌∙◌, subst, ⊎_elim, arith}
-use Rattle.std.proofs.lemmas.List.{ext_get_or, get_or-set_same, get_or-set_other, length-set, length-map, length-append, nil_from_length}
+use Rattle.std.proofs.Common.{◌≡◌, ℕ, suc, ◌+◌, ◌^◌, ◌<◌, ◌≤◌, true, [], ◌∷◌, length, set, sym, ap, ◌∙◌, ⊎_elim, arith}
+use Rattle.std.proofs.lemmas.List.{ext_get_or, get_or-set_same, get_or-set_other, length-set, length-map, nil_from_length}
 use Rattle.std.proofs.lemmas.List.Sums.{sum_by-cons}
-use Rattle.std.proofs.lemmas.Bool.{cases_Bool, cases_eq, both_ways}
+use Rattle.std.proofs.lemmas.Bool.{true_from_ne_false, cases_eq}
 use Rattle.rows.specs.Choices.{choices, stands, members}
 use Rattle.rows.proofs.Masks.{stands_below, same_mask}
-use Rattle.banks.specs.Names.{among}
 use Rattle.banks.specs.Rules.{Sheet, row, Under}
 use Rattle.trail.specs.Strokes.{stroke, lost, strokes_of, standing, Elsewhere}
-use Rattle.trail.proofs.Members.{among_lost}
+use Rattle.trail.proofs.Members.{among_lost, lost_count}
 use Rattle.trail.proofs.Storing.{standing_set}
-pub use Rattle.trail.proofs.Members.{lost_count as count_lost}
 
 -- a part of a mask
 module _ (m n : ℕ) (part : (v : ℕ) → stands n v ≡ true → stands m v ≡ true) where
   -- that is smaller leaves something lost
   pub some_lost : m < 2 ^ choices → n < 2 ^ choices → (m ≡ n → ⊥) → 0 < length (lost m n)
-  some_lost a b differ = ⊎_elim (λ e. absurd (differ (same_mask choices m n a b (agree (nil_from_length (lost m n) e))))) (λ ne. omega arith) (cases_eq (length (lost m n)) 0)
+  some_lost a b differ = ⊎_elim (λ e. absurd (differ (same_mask choices m n a b (λ v. grind (arith, kept (nil_from_length (lost m n) e) v, part v))))) (λ ne. omega arith) (cases_eq (length (lost m n)) 0)
     where
       kept : lost m n ≡ [] → (v : ℕ) → stands m v ≡ true → stands n v ≡ true
-      kept e v on =
-          ⊎_elim (λ y. y)
-          (λ off. absurd (both_ways (among v []) refl (subst (λ xs. among v xs ≡ true) e ((among_lost m n v).1 (stands_below choices m v a on, on, off)))))
-          (cases_Bool (stands n v))
-
-      agree : lost m n ≡ [] → (v : ℕ) → stands m v ≡ stands n v
-      agree e v =
-          ⊎_elim (λ on. on ∙ sym (kept e v on)) (λ off. ⊎_elim (λ y. absurd (both_ways (stands m v) off (part v y))) (λ z. off ∙ sym z) (cases_Bool (stands n v)))
-          (cases_Bool (stands m v))
+      kept e v on = true_from_ne_false (stands n v) (λ off. let has = (among_lost m n v).1 (stands_below choices m v a on, on, off) in grind (arith, has, e))
 
 -- a sheet that differs at most in a row is the other with that row stored
 pub stored_row : (r : ℕ) (s t : Sheet) → r < length s → Elsewhere r s t → t ≡ set s r (row t r)
 stored_row r s t h e =
     ext_get_or 0 t (set s r (row t r)) (e.same ∙ sym (length-set s r (row t r)))
-    (λ k _. ⊎_elim (λ at. subst (λ x. row t x ≡ row (set s r (row t r)) x) (sym at) (sym (get_or-set_same s r (row t r) 0 h)))
-    (λ ne. e.other k ne ∙ sym (get_or-set_other s r k (row t r) 0 ne)) (cases_eq k r))
+    (λ k _. grind (arith, get_or-set_same s r (row t r) 0 h, e.other k, get_or-set_other s r k (row t r) 0))
 
 -- so the strokes of a row are as many as stand no more
 pub standing_row : (r : ℕ) (s t : Sheet) → r < length s → Elsewhere r s t → ((v : ℕ) → stands (row t r) v ≡ true → stands (row s r) v ≡ true)
@@ -44,17 +33,13 @@ standing_row r s t h e part =
     ap (λ x. standing x + length (members (row s r))) (stored_row r s t h e) ∙ standing_set s r (row t r) h
     in
     let struck : length (strokes_of r (row s r) (row t r)) ≡ length (lost (row s r) (row t r)) = length-map (lost (row s r) (row t r)) (stroke r) in
-    omega (arith, count_lost (row s r) (row t r) part)
+    omega (arith, lost_count (row s r) (row t r) part)
 
 -- which is something where the row differs
 pub standing_falls : (r : ℕ) (s t : Sheet) → r < length s → Elsewhere r s t → ((v : ℕ) → stands (row t r) v ≡ true → stands (row s r) v ≡ true)
     → row s r < 2 ^ choices → row t r < 2 ^ choices → (row s r ≡ row t r → ⊥) → standing t < standing s
 standing_falls r s t h e part a b differ =
     omega (arith, standing_row r s t h e part, some_lost (row s r) (row t r) part a b differ, length-map (lost (row s r) (row t r)) (stroke r))
-
--- and those of two turns are as many as stand no more after both
-pub standing_more : (s t u : Sheet) (es fs : List ℕ) → standing t + length es ≡ standing s → standing u + length fs ≡ standing t → standing u + length (es ++ fs) ≡ standing s
-standing_more s t u es fs a b = omega (arith, length-append es fs)
 
 -- a sheet under another has no more choices
 standing_le : (s t : Sheet) → length s ≡ length t → ((r : ℕ) → length (members (row s r)) ≤ length (members (row t r))) → standing s ≤ standing t
@@ -65,4 +50,4 @@ standing_le (m ∷ s) (n ∷ t) e h =
     omega (arith, sum_by-cons (λ x. length (members x)) m s, sum_by-cons (λ x. length (members x)) n t, h 0, standing_le s t (omega arith) (λ r. h (suc r)))
 
 pub standing_under : (s t : Sheet) → Under s t → standing s ≤ standing t
-standing_under s t under = standing_le s t under.same (λ r. omega (arith, count_lost (row t r) (row s r) (under.part r)))
+standing_under s t under = standing_le s t under.same (λ r. omega (arith, lost_count (row t r) (row s r) (under.part r)))

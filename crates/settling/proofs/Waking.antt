@@ -1,7 +1,6 @@
 -- Numbers are put one after another.
-use Rattle.std.proofs.Common.{◌≡◌, ℕ, suc, ◌<◌, ◌≤◌, true, false, not, ◌||◌, eqb, List, [], ◌∷◌, length, get_or, sym, refl, ap, ◌∙◌, ⊎_elim, arith}
-use mathlib.Core.Bool.{or-false}
-use Rattle.std.proofs.lemmas.Bool.{cases_Bool, cases_lt, both_ways, and_left, or_cases, eqb-true}
+use Rattle.std.proofs.Common.{◌≡◌, ℕ, suc, ◌<◌, ◌≤◌, false, not, ◌||◌, eqb, List, [], ◌∷◌, length, get_or, sym, refl, ap, arith}
+use Rattle.std.proofs.lemmas.Bool.{and_left, ne_eqb, or_from}
 use Rattle.banks.specs.Calls.{rule_at}
 use Rattle.banks.specs.Names.{among}
 use Rattle.banks.specs.Rules.{Rule}
@@ -12,10 +11,8 @@ use Rattle.settling.proofs.Asking.{names_past}
 -- a list has no number that it has at no index
 pub not_among : (x : ℕ) (xs : List ℕ) → ((p : ℕ) → p < length xs → get_or xs p 0 ≡ x → ⊥) → among x xs ≡ false
 not_among x [] out = refl
-not_among x (y ∷ xs) out = ⊎_elim (λ on. absurd (met (not_among x xs (λ p h. out (suc p) (omega arith))) on)) (λ off. off) (cases_Bool (among x (y ∷ xs)))
-  where
-    met : among x xs ≡ false → among x (y ∷ xs) ≡ true → ⊥
-    met rest on = ⊎_elim (λ e. out 0 (omega arith) (sym (eqb-true x y e))) (both_ways (among x xs) rest) (or_cases (eqb x y) (among x xs) on)
+not_among x (y ∷ xs) out =
+    or_from (eqb x y) (among x xs) (ne_eqb x y (λ e. out 0 (omega arith) (sym e))) (not_among x xs (λ p h. out (suc p) (omega arith)))
 
 -- of the numbers below i those of a set have been put, and no others
 pub record Waking (these before : Numbers) (i : ℕ) (waits : Numbers) : Type 0 where
@@ -28,4 +25,4 @@ none_named Rs k r j h = and_left (among r (rule_at Rs j).names) (not (eqb j k)) 
 
 pub waking_woken : (Rs : List Rule) (k r : ℕ) (before waits : Numbers) → Waking (other_names Rs k r) before (length Rs) waits → Woken Rs k r before waits
 waking_woken Rs k r before waits w j =
-    ⊎_elim (w.behind j) (λ h. w.ahead j h ∙ sym (ap (λ b. before j || b) (none_named Rs k r j h) ∙ or-false (before j))) (cases_lt j (length Rs))
+    grind (arith, w.behind j, w.ahead j, none_named Rs k r j)

@@ -1,3 +1,4 @@
 pub mod Settling
 pub mod Propagation
+pub mod States
 pub mod Loop

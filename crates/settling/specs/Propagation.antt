@@ -5,8 +5,10 @@ use Rattle.rows.specs.Refusals.{Refusal, plain, fits, first, Answer}
 use Rattle.banks.specs.Calls.{too_few_rows}
 use Rattle.banks.specs.Rules.{Sheet, Rule, row}
 use Rattle.waiting.specs.Waiting.{Numbers, Empty, Same}
+use Rattle.trail.specs.Readings.{rows_of, memory_of, height_of}
 use Rattle.trail.specs.Stacks.{contents}
 use Rattle.trail.specs.Strokes.{standing, restored}
+use Rattle.trail.specs.declared.trail.Trail.{Trail}
 use Rattle.settling.specs.Settling.{Candidate, Largest, WipedOut, EachOnce}
 use Rattle.settling.specs.declared.refusal.SettleError.{SettleError}
 use Rattle.settling.specs.declared.refusal.SettleError.TheVariants.{TooFewRows, ShortList}
@@ -46,6 +48,11 @@ abbrev pub SettleAnswer : ℕ → List Rule → ℕ → Sheet → List ℕ → �
 SettleAnswer w Rs capacity s slots top waits s' slots' top' waits' =
     Answer settle_says (no_settle w Rs capacity s) ((s' ≡ s) × (slots' ≡ slots) × (top' ≡ top) × Same waits waits')
     (λ o. Empty waits' × (length slots' ≡ length slots) × Tells Rs o s s' (contents slots top) (contents slots' top'))
+
+-- Settling a trail, before and after it.
+abbrev pub TrailAnswer : ℕ → List Rule → ℕ → Trail → Numbers → Trail → Numbers → Result Outcome SettleError → Type 0
+TrailAnswer w Rs capacity t waits t' waits' =
+    SettleAnswer w Rs capacity (rows_of t) (memory_of t) (height_of t) waits (rows_of t') (memory_of t') (height_of t') waits'
 
 -- Two outcomes of settling the same rows by the same rules are alike: both settled, with the same count and the same choices left, or
 -- both wiped out.

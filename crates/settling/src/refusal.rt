@@ -1,7 +1,7 @@
 // Why a settle is refused.
 ghost use Rattle.settling.specs.Propagation.{settle_says};
 
-use rows::refusal::Numbered;
+use rows::refusal::{Numbered, Refused};
 
 // Why a settle is refused.
 #[derive(Clone, Copy, PartialEq, Eq, Debug)]
@@ -15,14 +15,10 @@ pub enum SettleError {
 impl Numbered for SettleError {
     ghost says = { settle_says };
 
-    fn number(&self) -> u32 {
-        match self {
+    fn refused(&self) -> Refused {
+        Refused::plain(match self {
             SettleError::TooFewRows => 24,
             SettleError::ShortList => 26,
-        }
-    }
-
-    fn value(&self, _index: usize) -> Option<usize> {
-        None
+        })
     }
 }

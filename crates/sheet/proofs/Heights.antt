@@ -1,14 +1,17 @@
 -- The heights of the open marks, and the rows that they store.
 use Rattle.std.proofs.Common.{◌≡◌, ℕ, ◌≤◌, true, leb, List, [], ◌∷◌, ◌++◌, map, length, take, drop, sym, refl, ap, ◌∙◌, subst, arith}
-use Rattle.std.proofs.lemmas.List.{length-take-le, take-append-drop}
+use Rattle.std.proofs.lemmas.List.{length-take-le, take-append-drop, drop-append-le}
 use Rattle.std.proofs.lemmas.Bool.{and_parts, and_from, leb-true, le-leb}
 use Rattle.banks.specs.Rules.{Sheet}
+use Rattle.trail.specs.Readings.{record_of}
+use Rattle.trail.specs.Stacks.{held}
 use Rattle.trail.specs.Strokes.{restored}
+use Rattle.trail.proofs.Stacked.{held_long}
 use Rattle.trail.proofs.Restoring.{restored_append}
-use Rattle.trail.proofs.Undoing.{drop_append}
 use Rattle.sheet.specs.Closing.{Splits}
 use Rattle.sheet.specs.Sheets.{opened_as, heights_rise}
 use Rattle.sheet.specs.declared.mark.OpenMark.{OpenMark}
+use Rattle.sheet.specs.declared.sheet.Sheet.{Sheet as Held}
 
 -- the record may grow
 pub heights_grow : (low high high' : ℕ) (ms : List OpenMark) → high ≤ high' → heights_rise low ms high ≡ true → heights_rise low ms high' ≡ true
@@ -47,7 +50,7 @@ stored_same s s' strokes new low (m ∷ ms) e r =
     let p = and_parts (leb low m.height) (heights_rise m.height ms (length strokes)) r in
     let within = heights_le m.height (length strokes) ms p.1 in
     let rows : restored s' (drop m.height (strokes ++ new)) ≡ restored s (drop m.height strokes) =
-    ap (restored s') (drop_append m.height strokes new within) ∙ restored_append s' (drop m.height strokes) new ∙ ap (λ t. restored t (drop m.height strokes)) e
+    ap (restored s') (drop-append-le m.height strokes new within) ∙ restored_append s' (drop m.height strokes) new ∙ ap (λ t. restored t (drop m.height strokes)) e
     in
     (λ t. record { serial = m.serial; rows = rows t; height = m.height } ∷ stored_same s s' strokes new m.height ms e p.1 t)
 
@@ -64,3 +67,7 @@ pub heights_closed : (k high : ℕ) (ms front : List OpenMark) (m : OpenMark) �
 heights_closed k high ms front m r split =
     let p = heights_front 0 high front split.later m (subst (λ xs. heights_rise 0 xs high ≡ true) split.whole r) in
     (p.0, p.1, heights_grow 0 m.height high front p.1 p.0)
+
+-- the open marks of a sheet were given at heights that its record reaches
+pub heights_recorded : (x : Held) → heights_rise 0 (held x.marks) (length (record_of x.trail)) ≡ true
+heights_recorded x = subst (λ n. heights_rise 0 (held x.marks) n ≡ true) (sym (held_long x.trail.struck)) x.heights

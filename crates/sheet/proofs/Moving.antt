@@ -1,12 +1,15 @@
 -- Each call moves the state as written out for it.
 use Rattle.std.proofs.Common.{◌≡◌, ℕ, ◌+◌, ◌<◌, ◌≤◌, true, not, leb, List, [], ◌∷◌, ◌++◌, map, length, take, drop, Some, None, sym, refl, ap, ◌∙◌, add-one, arith}
-use Rattle.std.proofs.lemmas.List.{map-append, drop_all, length-map, length-take-le}
+use Rattle.std.proofs.lemmas.List.{map-append, drop_all, length-map}
 use Rattle.rows.specs.Refusals.{plain, fits, first}
 use Rattle.rows.proofs.Refusing.{first_none, not_le_from}
 use Rattle.banks.specs.Rules.{Sheet, row}
 use Rattle.trail.specs.Strokes.{restored}
 use Rattle.trail.specs.Trails.{SomeStand}
-use Rattle.trail.proofs.Making.{member_not_zero}
+use Rattle.trail.specs.Stacks.{held}
+use Rattle.trail.specs.declared.stack.Stack.{Stack}
+use Rattle.trail.proofs.Members.{member_not_zero}
+use Rattle.trail.proofs.Stacked.{held_long}
 use Rattle.histories.specs.States.{Fresh, is_open}
 use Rattle.histories.specs.Moves.{mark, back, keep, done, gave, why, not_open, gives_mark, goes_back, keeps_rows, Moves, accepts}
 use Rattle.sheet.specs.Closing.{NoneOf, Splits}
@@ -69,10 +72,10 @@ module _ (s : Sheet) (xs : List ℕ) (given room : ℕ) where
   }))
 
   -- where a mark is not refused, its memory has a free entry
-  pub mark_room : (slots : List OpenMark) (top : ℕ) → room ≤ length slots → top ≤ length slots → why mark (state s xs (take top slots) given room) ≡ None → top < length slots
-  mark_room slots top within low w =
-      let past = first_none (fits (leb room (length (map (opened_as s xs) (take top slots)))) (plain 7)) _ w in
-      omega (arith, not_le_from room (length (map (opened_as s xs) (take top slots))) (plain 7) past.0, length-map (take top slots) (opened_as s xs), length-take-le top slots low)
+  pub mark_room : (marks : Stack OpenMark) → room ≤ length marks.slots.now → why mark (state s xs (held marks) given room) ≡ None → marks.top < length marks.slots.now
+  mark_room marks within w =
+      let past = first_none (fits (leb room (length (map (opened_as s xs) (held marks)))) (plain 7)) _ w in
+      omega (arith, not_le_from room (length (map (opened_as s xs) (held marks))) (plain 7) past.0, length-map (held marks) (opened_as s xs), held_long marks)
 
 -- a sheet just made
 pub new_fresh : (s : Sheet) (entries : ℕ) → SomeStand s → Fresh (new_state s entries)

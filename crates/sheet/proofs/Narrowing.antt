@@ -1,20 +1,24 @@
 -- Strike and hold as narrowings of one row.
-use Rattle.std.proofs.Common.{◌≡◌, ℕ, zero, suc, ◌+◌, ◌<◌, ◌≤◌, Bool, true, false, cond, not, ◌&&◌, eqb, ltb, List, [], ◌∷◌, ◌++◌, map, length, take, Some, None, Ok, Err, filter, Result, sym, refl, ap, ◌∙◌, ⊎_elim, arith}
+use Rattle.std.proofs.Common.{◌≡◌, ℕ, zero, suc, ◌+◌, ◌<◌, ◌≤◌, Bool, true, false, cond, not, ◌&&◌, eqb, ltb, List, [], ◌∷◌, ◌++◌, map, length, Some, None, Ok, Err, filter, Result, sym, refl, ap, ◌∙◌, ⊎_elim, arith}
 use lib.Bits.{bit_and}
 use Rattle.std.specs.List.{range_with_len}
-use Rattle.std.proofs.lemmas.List.{length-append, length-take-le}
-use Rattle.std.proofs.lemmas.Bool.{cases_eq, cond-true, cond-false, eqb-true, eq-eqb, ne_eqb, and_parts, and_from, both_ways, lt-ltb, ltb-true, not-false}
+use Rattle.std.specs.Result.{IsOk}
+use Rattle.std.proofs.lemmas.List.{length-append}
+use Rattle.std.proofs.lemmas.Bool.{false≢true, cases_eq, cond-true, cond-false, eqb-true, eq-eqb, ne_eqb, and_parts, and_from, both_ways, lt-ltb, ltb-true, not-false}
 use Rattle.rows.specs.Choices.{choices, stands, members, Only, Without}
 use Rattle.rows.specs.Refusals.{plain, first}
 use Rattle.rows.proofs.Masks.{and_true, stands_and, not_zero}
 use Rattle.rows.proofs.Refusing.{first_none, first_past, fits_none, le_fits_not, not_le_from, some_not_none}
 use Rattle.banks.specs.Rules.{Sheet, row}
 use Rattle.trail.specs.Strokes.{stroke, lost, strokes_of}
-use Rattle.trail.specs.Trails.{Narrows, NarrowAnswer, no_such_row, trail_says}
+use Rattle.trail.specs.Trails.{Narrows, no_such_row, trail_says}
+use Rattle.trail.specs.Calls.{NarrowAnswer}
+use Rattle.trail.specs.Readings.{rows_of, height_of, record_of}
+use Rattle.trail.specs.declared.trail.Trail.{Trail}
+use Rattle.trail.proofs.Stacked.{held_long}
 use Rattle.trail.specs.declared.refusal.TrailError.{TrailError}
 use Rattle.trail.proofs.Listing.{kept_alike, kept_twice}
-use Rattle.trail.proofs.Making.{member_not_zero}
-use Rattle.trail.proofs.Members.{lost_count}
+use Rattle.trail.proofs.Members.{member_not_zero, lost_count}
 use Rattle.settling.proofs.Ending.{any_stands}
 use Rattle.histories.specs.Moves.{strike, hold, done, why, not_standing, last_choice, SameMarks, strikes, holds, Moves, accepts}
 use Rattle.sheet.specs.Sheets.{opened_as, state, heights_rise}
@@ -119,17 +123,21 @@ module _ (s s' : Sheet) (xs xs' : List ℕ) (ms : List OpenMark) (given room r w
       others x = ap not (here x ∙ ap (λ b. eqb x v && b) (lt-ltb v choices fine.1) ∙ sym (and_true (eqb x v)))
 
 -- a row that is there, and a choice of it that is wanted: the narrowing is not refused
-pub narrow_done : (r wanted : ℕ) (s s' : Sheet) (slots slots' : List ℕ) (top top' : ℕ) (res : Result (Unit {0}) TrailError) → r < length s → 0 < bit_and (row s r) wanted
-    → NarrowAnswer r wanted s slots top s' slots' top' res → (length slots' ≡ length slots) × Narrows r wanted s s' (take top slots) (take top' slots')
-narrow_done r wanted s s' slots slots' top top' (Ok u) inside some a = a.1
-narrow_done r wanted s s' slots slots' top top' (Err e) inside some a =
-    absurd (some_not_none _ (trail_says e) a.0 (first_past _ _ (le_fits_not (length s) r (plain 4) inside) ∙ first_past _ [] (cond-false (eqb (bit_and (row s r) wanted) 0) (Some (plain 1)) None (ne_eqb (bit_and (row s r) wanted) 0 (λ z. omega arith)))))
+module _ (r wanted : ℕ) (t u : Trail) where
+  pub narrow_ok : (res : Result (Unit {0}) TrailError) → r < length (rows_of t) → 0 < bit_and (row (rows_of t) r) wanted → NarrowAnswer r wanted t u res → IsOk res
+  narrow_ok (Ok v) inside some a = refl
+  narrow_ok (Err e) inside some a =
+      absurd (some_not_none _ (trail_says e) a.0 (first_past _ _ (le_fits_not (length (rows_of t)) r (plain 4) inside) ∙ first_past _ [] (cond-false (eqb (bit_and (row (rows_of t) r) wanted) 0) (Some (plain 1)) None (ne_eqb (bit_and (row (rows_of t) r) wanted) 0 (λ z. omega arith)))))
 
--- the record only grows
-pub narrow_grows : (r wanted : ℕ) (s s' : Sheet) (slots slots' : List ℕ) (top top' : ℕ) → top ≤ length slots → top' ≤ length slots'
-    → Narrows r wanted s s' (take top slots) (take top' slots') → top ≤ top'
-narrow_grows r wanted s s' slots slots' top top' w w' n =
-    omega (arith, length-take-le top slots w, length-take-le top' slots' w', ap length n.recorded, length-append (take top slots) (strokes_of r (row s r) (row s' r)))
+  pub narrow_done : (res : Result (Unit {0}) TrailError) → r < length (rows_of t) → 0 < bit_and (row (rows_of t) r) wanted → NarrowAnswer r wanted t u res
+      → Narrows r wanted (rows_of t) (rows_of u) (record_of t) (record_of u)
+  narrow_done (Ok v) inside some a = a.1.1
+  narrow_done (Err e) inside some a = absurd (false≢true (narrow_ok (Err e) inside some a))
+
+  -- the record only grows
+  pub narrow_grows : Narrows r wanted (rows_of t) (rows_of u) (record_of t) (record_of u) → height_of t ≤ height_of u
+  narrow_grows n =
+      omega (arith, held_long t.struck, held_long u.struck, ap length n.recorded, length-append (record_of t) (strokes_of r (row (rows_of t) r) (row (rows_of u) r)))
 
 -- a choice that stands in both of two masks
 both_stand : (m k v : ℕ) → stands m v ≡ true → stands k v ≡ true → 0 < bit_and m k

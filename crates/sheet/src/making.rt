@@ -1,5 +1,6 @@
 // The making of a sheet.
-ghost use Rattle.std.specs.Prelude.{◌≡◌, [], length, if◌then◌else◌, nat_eq};
+ghost use Rattle.std.specs.Prelude.{◌≡◌, [], length};
+ghost use Rattle.trail.specs.Readings.{rows_of, memory_of};
 ghost use Rattle.histories.specs.Laws.{Law};
 ghost use Rattle.sheet.specs.Memory.{state_of};
 ghost use Rattle.sheet.specs.Sheets.{new_state};
@@ -9,26 +10,20 @@ use crate::sheet::Sheet;
 use trail::stack::Stack;
 use trail::trail::Trail;
 
-// How many marks can be open on a sheet of so many rows, where there is memory for so many.
-fn room_for(rows: usize, entries: usize) -> usize
-    ensures { result ≡ (if nat_eq rows 0 then 0 else entries) }
-{
-    if rows == 0 { 0 } else { entries }
-}
-
-impl<'a, 'b, 'c> Sheet<'a, 'b, 'c> {
+impl<'a> Sheet<'a> {
     // The sheet of these rows, with an empty record and no mark open or given. A sheet of no rows has no mark memory. The entries of both
     // stacks' memory stay as they are.
-    pub fn make(
-        trail: &'a mut Trail<'b, 'c>,
-        marks: &'a mut Stack<'b, OpenMark>,
-    ) -> Sheet<'a, 'b, 'c>
-        ensures made { state_of result ≡ new_state trail.old.rows.now (length marks.old.slots.now) }
+    pub fn make(mut trail: Trail<'a>, mut marks: Stack<'a, OpenMark>) -> Sheet<'a>
+        ensures made { state_of result ≡ new_state (rows_of trail.entry) (length marks.entry.slots.now) }
         ensures law { Law (state_of result) [] (state_of result) }
-        ensures record { result.trail.now.struck.now.slots.now ≡ trail.old.struck.now.slots.now }
-        ensures marks { result.marks.now.slots.now ≡ marks.old.slots.now }
+        ensures record { memory_of result.trail ≡ memory_of trail.entry }
+        ensures marks { result.marks.slots.now ≡ marks.entry.slots.now }
     {
-        let room = room_for(trail.row_count(), marks.room());
+        let room = if trail.row_count() == 0 {
+            0
+        } else {
+            marks.room()
+        };
         trail.forget();
         marks.clear();
         Sheet {

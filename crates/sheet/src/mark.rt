@@ -16,21 +16,18 @@ impl Mark {
 }
 
 // An entry of the mark memory: an open mark's serial, and how many struck choices the record held when it was given.
-#[derive(Clone, Copy, PartialEq, Eq)]
+#[derive(Clone, Copy, PartialEq, Eq, Default)]
 pub struct OpenMark {
     pub(crate) serial: usize,
     pub(crate) height: usize,
 }
 
 impl OpenMark {
-    // An entry to fill mark memory with.
+    // An entry to fill mark memory with. Beside `Default`, since it says which entry that is.
     pub fn blank() -> OpenMark
         ensures serial { result.serial ≡ 0 }
         ensures height { result.height ≡ 0 }
     {
-        OpenMark {
-            serial: 0,
-            height: 0,
-        }
+        OpenMark::default()
     }
 }

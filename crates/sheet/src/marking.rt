@@ -1,7 +1,7 @@
 // Mark, back and keep.
 ghost use Rattle.std.specs.Prelude.{◌≡◌, length};
 ghost use Rattle.rows.specs.Refusals.{Answer};
-ghost use Rattle.trail.specs.Stacks.{contents};
+ghost use Rattle.trail.specs.Stacks.{held};
 ghost use Rattle.histories.specs.Laws.{Lawfully};
 ghost use Rattle.histories.specs.Moves.{mark as marks_it, back as goes_back, keep as keeps, why};
 ghost use Rattle.sheet.specs.Closing.{Found, Closed};
@@ -15,7 +15,7 @@ use crate::sheet::Sheet;
 // The most marks that a sheet gives.
 pub const MAX_MARKS: usize = 1_000_000;
 
-impl<'a, 'b, 'c> Sheet<'a, 'b, 'c> {
+impl<'a> Sheet<'a> {
     // Refuses where as many marks are open as can be, and then where all were given.
     fn may_mark(&self) -> Result<(), SheetError>
         ensures { Answer sheet_says (why marks_it (state_of self.now)) (Unit {0}) (λ _. Unit {0}) result }
@@ -37,37 +37,28 @@ impl<'a, 'b, 'c> Sheet<'a, 'b, 'c> {
         self.may_mark()?;
         let serial = self.given;
         let height = self.trail.height();
-        let _ = self.marks.push(OpenMark { serial, height });
-        self.given = serial + 1;
+        self.marks.push(OpenMark { serial, height }).unwrap();
+        self.given += 1;
         Ok(Mark { serial })
     }
 
     // The place of the open mark of a serial, from the bottom of the mark memory.
     fn find(&self, serial: usize) -> Option<usize>
-        ensures { Found serial (contents self.now.marks.now.slots.now self.now.marks.now.top) result }
+        ensures { Found serial (held self.now.marks) result }
     {
-        let mut at = self.marks.len();
-        while at > 0 {
-            at -= 1;
-            let Some(open) = self.marks.get(at) else {
-                return None;
-            };
-            if open.serial == serial {
-                return Some(at);
-            }
-        }
-        None
+        let entries = self.marks.entries();
+        entries.iter().rposition(|open| open.serial == serial)
     }
 
-    // Closes the open mark of a serial and all later ones, and tells what was remembered of it.
-    fn close(&mut self, serial: usize) -> Option<OpenMark>
-        ensures closed { Closed serial (contents self.old.marks.now.slots.now self.old.marks.now.top) (contents self.new.marks.now.slots.now self.new.marks.now.top) result }
+    // Closes the open mark of a serial and all later ones, and tells what was remembered of it. Refuses a serial of which none is open.
+    fn close(&mut self, serial: usize) -> Result<OpenMark, SheetError>
+        ensures closed { Closed serial (held self.old.marks) (held self.new.marks) result }
         ensures rest { OnlyCloses self.old self.new }
     {
-        let at = self.find(serial)?;
-        let open = self.marks.get(at)?;
+        let at = self.find(serial).ok_or(SheetError::NotOpen)?;
+        let open = self.marks.entries()[at];
         self.marks.truncate(at);
-        Some(open)
+        Ok(open)
     }
 
     // Makes the rows those at the time the mark was given, and closes it and all later marks. The mark is spent, also where it is refused.
@@ -76,9 +67,7 @@ impl<'a, 'b, 'c> Sheet<'a, 'b, 'c> {
         ensures same { RefusedLeaves result self.old self.new }
     {
         let Mark { serial } = mark;
-        let Some(open) = self.close(serial) else {
-            return Err(SheetError::NotOpen);
-        };
+        let open = self.close(serial)?;
         self.trail.undo_to(open.height);
         Ok(())
     }
@@ -89,9 +78,7 @@ impl<'a, 'b, 'c> Sheet<'a, 'b, 'c> {
         ensures same { RefusedLeaves result self.old self.new }
     {
         let Mark { serial } = mark;
-        let Some(_) = self.close(serial) else {
-            return Err(SheetError::NotOpen);
-        };
+        self.close(serial)?;
         Ok(())
     }
 }

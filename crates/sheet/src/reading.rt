@@ -5,12 +5,12 @@ ghost use Rattle.sheet.specs.Memory.{state_of};
 use crate::sheet::Sheet;
 use trail::trail::Trail;
 
-impl<'a, 'b, 'c> Sheet<'a, 'b, 'c> {
+impl<'a> Sheet<'a> {
     // The rows and the record.
-    pub fn trail(&self) -> &Trail<'b, 'c>
-        ensures { result.now ≡ self.now.trail.now }
+    pub fn trail(&self) -> &Trail<'a>
+        ensures { result.now ≡ self.now.trail }
     {
-        self.trail
+        &self.trail
     }
 
     // How many marks are open.

@@ -1,7 +1,7 @@
 // Why a call on a sheet is refused.
 ghost use Rattle.sheet.specs.Sheets.{sheet_says};
 
-use rows::refusal::Numbered;
+use rows::refusal::{Numbered, Refused};
 
 // Why a call on a sheet is refused.
 #[derive(Clone, Copy, PartialEq, Eq, Debug)]
@@ -23,18 +23,14 @@ pub enum SheetError {
 impl Numbered for SheetError {
     ghost says = { sheet_says };
 
-    fn number(&self) -> u32 {
-        match self {
+    fn refused(&self) -> Refused {
+        Refused::plain(match self {
             SheetError::NoSuchRow => 4,
             SheetError::NotStanding => 5,
             SheetError::LastChoice => 6,
             SheetError::MarksFull => 7,
             SheetError::NoMarkLeft => 8,
             SheetError::NotOpen => 9,
-        }
-    }
-
-    fn value(&self, _index: usize) -> Option<usize> {
-        None
+        })
     }
 }

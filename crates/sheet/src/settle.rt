@@ -14,7 +14,7 @@ use settling::propagate::propagate;
 use settling::refusal::SettleError;
 use waiting::list::WaitingList;
 
-impl<'a, 'b, 'c> Sheet<'a, 'b, 'c> {
+impl<'a> Sheet<'a> {
     // Settles the sheet by a rule bank, with a list for the rules that wait, which is empty afterwards.
     pub fn settle<B: Bank, L: WaitingList>(
         &mut self,
@@ -27,6 +27,6 @@ impl<'a, 'b, 'c> Sheet<'a, 'b, 'c> {
         ensures alike { Accepted (Alike (B.rules bank.now) (state_of self.old).rows (state_of self.new).rows) result }
         ensures largest { Accepted (SettlesOn (B.rules bank.now) (state_of self.old).rows (state_of self.new).rows) result }
     {
-        propagate(self.trail, bank, list)
+        propagate(&mut self.trail, bank, list)
     }
 }

@@ -13,7 +13,7 @@ use crate::sheet::Sheet;
 use rows::mask;
 use rows::mask::CHOICES;
 
-impl<'a, 'b, 'c> Sheet<'a, 'b, 'c> {
+impl<'a> Sheet<'a> {
     // Refuses a row that is not on the sheet, and then a choice that does not stand in it.
     fn may_hold(&self, row: usize, choice: usize) -> Result<(), SheetError>
         ensures { Answer sheet_says (why (holds row choice) (state_of self.now)) (Unit {0}) (λ _. Unit {0}) result }
@@ -21,10 +21,8 @@ impl<'a, 'b, 'c> Sheet<'a, 'b, 'c> {
         if row >= self.trail.row_count() {
             return Err(SheetError::NoSuchRow);
         }
-        if choice >= CHOICES {
-            return Err(SheetError::NotStanding);
-        }
-        if !self.trail.contains(row, choice) {
+        // Numbers from 64 on are tested apart, since what `contains` promises does not rule them out.
+        if choice >= CHOICES || !self.trail.contains(row, choice) {
             return Err(SheetError::NotStanding);
         }
         Ok(())
@@ -71,9 +69,10 @@ impl<'a, 'b, 'c> Sheet<'a, 'b, 'c> {
 
     // Takes from a row the choices that are not wanted, where some are.
     fn narrow(&mut self, row: usize, wanted: u64)
-        requires { (row < length self.old.trail.now.rows.now) × (0 < bit_and (row_of self.old.trail.now.rows.now row) wanted) }
+        requires inside { row < length (state_of self.old).rows }
+        requires some { 0 < bit_and (row_of (state_of self.old).rows row) wanted }
         ensures { NarrowsSheet row wanted self.old self.new }
     {
-        let _ = self.trail.narrow(row, wanted);
+        self.trail.narrow(row, wanted).unwrap();
     }
 }

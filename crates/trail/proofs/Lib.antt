@@ -1,8 +1,8 @@
 pub mod Stacked
 pub mod Listing
 pub mod Members
-pub mod Making
+pub mod Admitting
 pub mod Noting
 pub mod Restoring
 pub mod Storing
-pub mod Undoing
+pub mod Widening

@@ -1,5 +1,5 @@
 -- The choices of a mask as a list, and what is lost of them.
-use Rattle.std.proofs.Common.{◌≡◌, ℕ, ◌+◌, ◌^◌, ◌<◌, ◌≤◌, Bool, true, false, not, ◌&&◌, length, Decides, filter, sym, refl, ap, ◌∙◌, subst, arith}
+use Rattle.std.proofs.Common.{◌≡◌, ℕ, zero, suc, ◌+◌, ◌^◌, ◌<◌, ◌≤◌, Bool, true, false, not, ◌&&◌, length, Decides, filter, sym, refl, ap, ◌∙◌, subst, arith}
 use lib.Bits.{bit_xor}
 use lib.Count.{count_trailing_zeros}
 use Rattle.std.specs.List.{range_with_len, AllByRecursion}
@@ -8,7 +8,7 @@ use Rattle.std.proofs.ByRecursion.{all_kept_by}
 use Rattle.std.proofs.lemmas.Bool.{not-true}
 use Rattle.std.proofs.lemmas.Bool.Decides.{Decides-at, Decides-and, Decides-like}
 use Rattle.rows.specs.Choices.{choices, stands, members}
-use Rattle.rows.proofs.Masks.{lowest_is, members_lowest, stands_below, taken_out}
+use Rattle.rows.proofs.Masks.{lowest_is, members_lowest, members_none, stands_below, taken_out}
 use Rattle.banks.specs.Names.{among, apart}
 use Rattle.trail.specs.Strokes.{lost}
 use Rattle.trail.proofs.Listing.{kept_alike, kept_twice, kept_few, among_kept, apart_kept, all_counting, among_counting, apart_counting}
@@ -42,6 +42,11 @@ some_member m p h =
     let v = count_trailing_zeros choices m in
     let first-is = members_lowest m (bit_xor m (2 ^ v)) v (stands_below choices m v h low.here) low (taken_out m v low.here) in
     subst (λ xs. 0 < length xs) (sym first-is) (omega arith)
+
+-- a mask that has a choice is not 0
+pub member_not_zero : (m : ℕ) → 0 < length (members m) → 0 < m
+member_not_zero zero h = absurd (let none : 0 < 0 = subst (λ xs. 0 < length xs) members_none h in omega arith)
+member_not_zero (suc m) h = omega arith
 
 -- a mask's choices are those below 64 that stand in it, each once
 pub all_members : (m : ℕ) → AllByRecursion (λ v. v < choices) (members m)

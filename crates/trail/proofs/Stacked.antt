@@ -1,32 +1,39 @@
--- What a stack holds after a push or a pop.
-use Rattle.std.proofs.Common.{◌≡◌, ℕ, ◌+◌, ◌-◌, ◌<◌, ◌≤◌, eqb, leb, List, [], length, get_or, take, set, Some, None, Ok, sym, refl, ap, ◌∙◌, arith}
-use native.Mathlib.Nat.{min-le_left}
-use Rattle.std.specs.List.{slice_get}
-use Rattle.std.proofs.lemmas.List.{take_more, take_more_set, length-set, length-take, length-take-le, get_or-take}
-use Rattle.std.proofs.lemmas.Option.{slice_get_past, slice_get_read}
-use Rattle.std.proofs.lemmas.Bool.{ne_eqb, cond-false}
+-- What a stack holds, and what a push or a pop leaves.
+use Rattle.std.proofs.Common.{◌≡◌, ◌+◌, ◌<◌, eqb, leb, List, [], ◌∷◌, ◌++◌, length, Ok, Err, Some, None, Result, sym, refl, ap, ◌∙◌, arith}
+use Rattle.std.specs.Result.{IsOk}
+use Rattle.std.proofs.lemmas.List.{append-nil, append_assoc, length-take-le, length-append}
+use Rattle.std.proofs.lemmas.Bool.{false≢true, ne_eqb, cond-false}
 use Rattle.rows.specs.Refusals.{plain, fits}
-use Rattle.rows.proofs.Refusing.{first_past, le_fits_not}
-use Rattle.trail.specs.Stacks.{contents, PushAnswer, PopAnswer}
+use Rattle.rows.proofs.Refusing.{first_past, le_fits_not, some_not_none}
+use Rattle.trail.specs.Stacks.{stack_says, held, Grows, PushAnswer, PopAnswer}
+use Rattle.trail.specs.declared.refusal.StackError.{StackError}
+use Rattle.trail.specs.declared.stack.Stack.{Stack}
 
-module _ {T : Type 0} (slots : List T) (top : ℕ) where
-  pub none_at : (i : ℕ) → top ≤ i → None ≡ slice_get (contents slots top) i
-  none_at i h = sym (slice_get_past (take top slots) i (omega (arith, length-take top slots, min-le_left top (length slots))))
+module _ {T : Type 0} where
+  pub held_long : (s : Stack T) → length (held s) ≡ s.top
+  held_long s = length-take-le s.top s.slots.now s.within
 
-  pub some_at : (i : ℕ) (x : T) → top ≤ length slots → i < top → x ≡ get_or slots i x → Some x ≡ slice_get (contents slots top) i
-  some_at i x w h e = sym (slice_get_read (take top slots) top i x (sym (length-take-le top slots w)) h (e ∙ sym (get_or-take top slots i x h)))
+  -- a stack that grows by nothing, and by some entries after others
+  pub grows_none : (s : Stack T) → Grows [] s s
+  grows_none s = (refl, sym (append-nil (held s)))
 
-  pub pushed : (x : T) → top < length slots → PushAnswer slots top x (set slots top x) (top + 1) (Ok tt)
-  pushed x h = (
-    first_past (fits (leb (length slots) top) (plain 10)) [] (le_fits_not (length slots) top (plain 10) h),
-    (length-set slots top x, take_more_set slots top x h),
-  )
+  pub grows_more : (new more : List T) (s t u : Stack T) → Grows new s t → Grows more t u → Grows (new ++ more) s u
+  grows_more new more s t u a b = (b.0 ∙ a.0, b.1 ∙ ap (λ xs. xs ++ more) a.1 ∙ append_assoc (held s) new more)
 
-  pub popped : (x : T) → top ≤ length slots → (top ≡ 0 → ⊥) → PopAnswer slots top slots (top - 1) (Ok (get_or slots (top - 1) x))
-  popped x w ne = (
-    first_past (fits (eqb top 0) (plain 10)) [] (cond-false (eqb top 0) (Some (plain 10)) None (ne_eqb top 0 ne)),
-    (refl, ap (λ n. take n slots) one_down ∙ take_more slots (top - 1) x (omega arith)),
-  )
-    where
-      one_down : top ≡ top - 1 + 1
-      one_down = omega arith
+  pub grows_top : (new : List T) (s t : Stack T) → Grows new s t → t.top ≡ s.top + length new
+  grows_top new s t g = omega (arith, held_long s, held_long t, ap length g.1, length-append (held s) new)
+
+  -- a push where a slot is free is accepted, and so is a pop where an entry lies
+  pub pushed_ok : (s t : Stack T) (x : T) (r : Result (Unit {0}) StackError) → s.top < length s.slots.now → PushAnswer s t x r → IsOk r
+  pushed_ok s t x (Ok u) free p = refl
+  pushed_ok s t x (Err e) free p =
+      absurd (some_not_none _ (stack_says e) p.0 (first_past (fits (leb (length s.slots.now) s.top) (plain 10)) [] (le_fits_not (length s.slots.now) s.top (plain 10) free)))
+
+  pub popped_ok : (s t : Stack T) (r : Result T StackError) → 0 < s.top → PopAnswer s t r → IsOk r
+  popped_ok s t (Ok x) some p = refl
+  popped_ok s t (Err e) some p =
+      absurd (some_not_none _ (stack_says e) p.0 (first_past _ [] (cond-false (eqb s.top 0) (Some (plain 10)) None (ne_eqb s.top 0 (λ z. omega arith)))))
+
+  pub pushed_grows : (s t : Stack T) (x : T) (r : Result (Unit {0}) StackError) → s.top < length s.slots.now → PushAnswer s t x r → Grows (x ∷ []) s t
+  pushed_grows s t x (Ok u) free p = p.1
+  pushed_grows s t x (Err e) free p = absurd (false≢true (pushed_ok s t x (Err e) free p))

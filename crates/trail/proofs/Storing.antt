@@ -1,5 +1,5 @@
 -- A row is replaced by a part of it, or by a wider one.
-use Rattle.std.proofs.Common.{◌≡◌, ℕ, ◌+◌, ◌*◌, ◌^◌, ◌<◌, ◌≤◌, Bool, true, false, not, ◌&&◌, List, ◌++◌, map, length, take, set, sym, refl, ap, ◌∙◌, subst, ⊎_elim, arith}
+use Rattle.std.proofs.Common.{◌≡◌, ℕ, ◌+◌, ◌*◌, ◌^◌, ◌<◌, ◌≤◌, Bool, true, false, not, ◌&&◌, ◌++◌, map, length, set, sym, refl, ap, ◌∙◌, subst, ⊎_elim, arith}
 use lib.Bits.{bit_and, bit_xor}
 use Rattle.std.proofs.lemmas.List.{length-set, get_or-set_same, get_or-set_other}
 use Rattle.std.proofs.lemmas.List.Sums.{sum_by-set}
@@ -8,8 +8,12 @@ use Rattle.rows.specs.Choices.{choices, stands, members}
 use Rattle.rows.proofs.Masks.{stands_and, stands_xor, one_of}
 use Rattle.banks.specs.Rules.{Sheet, row}
 use Rattle.trail.specs.Strokes.{stroke, lost, strokes_of, restored, standing, Elsewhere}
-use Rattle.trail.specs.Trails.{SomeStand, Parts, Noted, Stored, Narrows}
-use Rattle.trail.proofs.Members.{members_kept, lost_count}
+use Rattle.trail.specs.Calls.{Noted, Stored}
+use Rattle.trail.specs.Readings.{rows_of, memory_of, height_of, record_of}
+use Rattle.trail.specs.Trails.{SomeStand, Parts, Narrows}
+use Rattle.trail.specs.declared.trail.Trail.{Trail}
+use Rattle.trail.proofs.Admitting.{Owed}
+use Rattle.trail.proofs.Members.{some_member, members_kept, lost_count}
 use Rattle.trail.proofs.Restoring.{restored_lost}
 
 module _ (s : Sheet) (r k : ℕ) (inside : r < length s) where
@@ -45,34 +49,40 @@ parts_and m wanted = record { staying = within; losing = out }
     out : (v : ℕ) → stands (bit_xor m (bit_and m wanted)) v ≡ (stands m v && not (stands (bit_and m wanted) v))
     out v = stands_xor m (bit_and m wanted) v ∙ differ (stands m v) (stands (bit_and m wanted) v) (within v)
 
-module _ (s : Sheet) (r k l top : ℕ) (inside : r < length s) (parts : Parts (row s r) k l) (spare : top + standing s ≤ length s * choices) where
-  split_long : length (members k) + length (members l) ≡ length (members (row s r))
-  split_long = ap (λ xs. length (members k) + length xs) (members_lost (row s r) k l parts) ∙ lost_count (row s r) k parts.staying
+-- what the fields of a trail owe, where a row of it becomes another mask
+pub set_owes : (t : Trail) (r k : ℕ) → r < length (rows_of t) → 0 < k → k < 2 ^ choices → height_of t + standing (set (rows_of t) r k) ≤ length (rows_of t) * choices
+    → Owed (set (rows_of t) r k) (memory_of t) (height_of t)
+set_owes t r k inside some fit spare =
+    let long = length-set (rows_of t) r k in
+    (some_set (rows_of t) r k inside t.some (some_member k some fit), omega (arith, long, t.few), omega (arith, long, t.enough), omega (arith, long, spare))
 
-  -- the record has room for what the row loses
-  pub room_for_lost : top + length (members l) + standing (set s r k) ≤ length (set s r k) * choices
-  room_for_lost = subst (λ n. top + length (members l) + standing (set s r k) ≤ n * choices) (sym (length-set s r k)) (omega (arith, split_long, standing_set s r k inside))
-
-  pub spare_set : top + standing (set s r k) ≤ length (set s r k) * choices
-  spare_set = omega (arith, room_for_lost)
+-- the record has room for what a row loses
+pub room_for_lost : (t : Trail) (r k l : ℕ) → r < length (rows_of t) → Parts (row (rows_of t) r) k l
+    → height_of t + length (members l) + standing (set (rows_of t) r k) ≤ length (set (rows_of t) r k) * choices
+room_for_lost t r k l inside parts =
+    let split : length (members k) + length (members l) ≡ length (members (row (rows_of t) r)) =
+    ap (λ xs. length (members k) + length xs) (members_lost (row (rows_of t) r) k l parts) ∙ lost_count (row (rows_of t) r) k parts.staying
+    in omega (arith, split, standing_set (rows_of t) r k inside, length-set (rows_of t) r k, t.spare)
 
 -- storing a part of a row, and noting what it loses
-pub stored_as : (s s' : Sheet) (r k l : ℕ) (slots slots' : List ℕ) (top top' : ℕ) → Parts (row s r) k l → s' ≡ set s r k
-    → Noted (map (stroke r) (members l)) slots top slots' top' → Stored r k s slots top s' slots' top'
-stored_as s s' r k l slots slots' top top' parts e noted =
-    record { rows = e; noted = subst (λ xs. Noted (map (stroke r) xs) slots top slots' top') (members_lost (row s r) k l parts) noted }
+pub stored_as : (t u : Trail) (r k l : ℕ) → Parts (row (rows_of t) r) k l → rows_of u ≡ set (rows_of t) r k → Noted (map (stroke r) (members l)) t u → Stored r k t u
+stored_as t u r k l parts e noted =
+    record { rows = e; noted = subst (λ xs. Noted (map (stroke r) xs) t u) (members_lost (row (rows_of t) r) k l parts) noted }
 
 -- and that is a narrowing
-pub narrowed_as : (s s' : Sheet) (r wanted : ℕ) (slots slots' : List ℕ) (top top' : ℕ) → r < length s → row s r < 2 ^ choices → bit_and (row s r) wanted < 2 ^ choices
-    → Stored r (bit_and (row s r) wanted) s slots top s' slots' top' → Narrows r wanted s s' (take top slots) (take top' slots')
-narrowed_as s s' r wanted slots slots' top top' inside hm hk st =
-    subst (λ t. Narrows r wanted s t (take top slots) (take top' slots')) (sym st.rows) (record {
+pub narrowed_as : (t u : Trail) (r wanted : ℕ) → r < length (rows_of t) → row (rows_of t) r < 2 ^ choices → bit_and (row (rows_of t) r) wanted < 2 ^ choices
+    → Stored r (bit_and (row (rows_of t) r) wanted) t u → Narrows r wanted (rows_of t) (rows_of u) (record_of t) (record_of u)
+narrowed_as t u r wanted inside hm hk st =
+    subst (λ s'. Narrows r wanted s s' (record_of t) (record_of u)) (sym st.rows) (record {
       elsewhere = elsewhere_set s r k inside;
       here = λ v. ap (λ m. stands m v) row_is ∙ stands_and (row s r) wanted v;
-      recorded = st.noted.recorded ∙ ap (λ m. take top slots ++ strokes_of r (row s r) m) (sym row_is);
+      recorded = st.noted.1 ∙ ap (λ m. record_of t ++ strokes_of r (row s r) m) (sym row_is);
       undone = ap (λ m. restored (set s r k) (strokes_of r (row s r) m)) row_is ∙ restored_lost s r k inside hm hk (parts_and (row s r) wanted).staying;
     })
   where
+    s : Sheet
+    s = rows_of t
+
     k : ℕ
     k = bit_and (row s r) wanted
 

@@ -1,3 +1,5 @@
 pub mod Stacks
 pub mod Strokes
 pub mod Trails
+pub mod Calls
+pub mod Readings

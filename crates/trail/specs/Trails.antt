@@ -1,10 +1,10 @@
 -- A trail: the rows of a sheet, with the record of the choices that were struck from them.
-use Rattle.std.specs.Prelude.{◌≡◌, ℕ, ◌+◌, ◌-◌, ◌*◌, ◌<◌, ◌≤◌, Bool, true, false, not, ◌&&◌, ◌||◌, List, [], ◌∷◌, ◌++◌, length, take, drop, Some, None, Option, Result, ◌==◌, bit_and, nat_le, nat_lt, slice_set}
+use Rattle.std.specs.Prelude.{◌≡◌, ℕ, ◌*◌, ◌<◌, ◌≤◌, Bool, true, not, ◌&&◌, List, [], ◌∷◌, ◌++◌, length, take, drop, Some, None, Option, ◌==◌, bit_and, nat_le, nat_lt}
+use Rattle.std.specs.List.{list_any}
 use Rattle.rows.specs.Choices.{stands, members}
-use Rattle.rows.specs.Refusals.{Refusal, plain, fits, first, Answer}
+use Rattle.rows.specs.Refusals.{Refusal, plain, fits, first}
 use Rattle.banks.specs.Rules.{Sheet, row}
-use Rattle.trail.specs.Stacks.{contents}
-use Rattle.trail.specs.Strokes.{strokes_of, put_back, restored, Elsewhere}
+use Rattle.trail.specs.Strokes.{strokes_of, restored, Elsewhere}
 use Rattle.trail.specs.declared.refusal.TrailError.{TrailError}
 use Rattle.trail.specs.declared.refusal.TrailError.TheVariants.{EmptyRow, RowCount, ShortRecord, NoSuchRow}
 
@@ -28,8 +28,7 @@ SomeStand s = (r : ℕ) → r < length s → 0 < length (members (row s r))
 
 -- Some mask is 0.
 abbrev pub some_empty : Sheet → Bool
-some_empty [] = false
-some_empty (m ∷ s) = m == 0 || some_empty s
+some_empty s = list_any (λ m. m == 0) s
 
 -- A sheet may have n rows: 1 to 256.
 abbrev pub may_count : ℕ → Bool
@@ -69,36 +68,12 @@ pub record Narrows (r wanted : ℕ) (before after : Sheet) (strokes strokes' : L
   pub recorded : strokes' ≡ strokes ++ strokes_of r (row before r) (row after r)
   pub undone : restored after (strokes_of r (row before r) (row after r)) ≡ before
 
--- A narrowing, by the rows, the record's memory and its top before and after it.
-abbrev pub NarrowAnswer : ℕ → ℕ → Sheet → List ℕ → ℕ → Sheet → List ℕ → ℕ → Result (Unit {0}) TrailError → Type 0
-NarrowAnswer r wanted s slots top s' slots' top' =
-    Answer trail_says (first (no_such_row s r ∷ none_left s r wanted ∷ [])) ((s' ≡ s) × (slots' ≡ slots) × (top' ≡ top))
-    (λ _. (length slots' ≡ length slots) × Narrows r wanted s s' (contents slots top) (contents slots' top'))
-
 -- All strokes of the record from an index on are put back.
 pub record Undoes (height : ℕ) (before after : Sheet) (strokes strokes' : List ℕ) : Type 0 where
   pub rows : after ≡ restored before (drop height strokes)
   pub recorded : strokes' ≡ take height strokes
 
--- The latest stroke, if any, is taken off the record and put back.
-pub record UndoesOne (s : Sheet) (slots : List ℕ) (top : ℕ) (s' : Sheet) (slots' : List ℕ) (top' : ℕ) : Type 0 where
-  pub long : length slots' ≡ length slots
-  pub fewer : top' ≡ top - 1
-  pub rows : (e : ℕ) → contents slots top ≡ contents slots' top' ++ e ∷ [] → s' ≡ put_back e s
-  pub recorded : 0 < top → (e : ℕ) × (contents slots top ≡ contents slots' top' ++ e ∷ [])
-
 -- A mask is parted into the choices that stay and those that are lost.
 pub record Parts (mask stays lost : ℕ) : Type 0 where
   pub staying : (v : ℕ) → stands stays v ≡ true → stands mask v ≡ true
   pub losing : (v : ℕ) → stands lost v ≡ (stands mask v && not (stands stays v))
-
--- The record of some memory is followed by these strokes.
-pub record Noted (new slots : List ℕ) (top : ℕ) (slots' : List ℕ) (top' : ℕ) : Type 0 where
-  pub long : length slots' ≡ length slots
-  pub more : top' ≡ top + length new
-  pub recorded : contents slots' top' ≡ contents slots top ++ new
-
--- A row is replaced by a part of it, and what it loses is recorded.
-pub record Stored (r stays : ℕ) (s : Sheet) (slots : List ℕ) (top : ℕ) (s' : Sheet) (slots' : List ℕ) (top' : ℕ) : Type 0 where
-  pub rows : s' ≡ slice_set s r stays
-  pub noted : Noted (strokes_of r (row s r) stays) slots top slots' top'

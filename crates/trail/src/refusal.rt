@@ -1,8 +1,10 @@
 // Why a stack or a trail refuses.
+ghost use Rattle.std.specs.Prelude.{◌≡◌};
 ghost use Rattle.trail.specs.Stacks.{stack_says};
 ghost use Rattle.trail.specs.Trails.{trail_says};
+ghost use Rattle.trail.specs.declared.refusal.TrailError.TheVariants.{EmptyRow};
 
-use rows::refusal::Numbered;
+use rows::refusal::{Numbered, Refused, RowError};
 
 // Why a stack refuses.
 #[derive(Clone, Copy, PartialEq, Eq, Debug)]
@@ -16,12 +18,8 @@ pub enum StackError {
 impl Numbered for StackError {
     ghost says = { stack_says };
 
-    fn number(&self) -> u32 {
-        10
-    }
-
-    fn value(&self, _index: usize) -> Option<usize> {
-        None
+    fn refused(&self) -> Refused {
+        Refused::plain(10)
     }
 }
 
@@ -41,16 +39,22 @@ pub enum TrailError {
 impl Numbered for TrailError {
     ghost says = { trail_says };
 
-    fn number(&self) -> u32 {
-        match self {
+    fn refused(&self) -> Refused {
+        Refused::plain(match self {
             TrailError::EmptyRow => 1,
             TrailError::RowCount => 2,
             TrailError::ShortRecord => 3,
             TrailError::NoSuchRow => 4,
-        }
+        })
     }
+}
 
-    fn value(&self, _index: usize) -> Option<usize> {
-        None
+impl From<RowError> for TrailError {
+    ghost from_gives = { λ _ e. e ≡ EmptyRow };
+
+    fn from(why: RowError) -> TrailError {
+        match why {
+            RowError::Empty => TrailError::EmptyRow,
+        }
     }
 }

@@ -1,29 +1,18 @@
-use Rattle.std.proofs.Common.{length, take, refl, ap, arith}
-use Rattle.sheet.proofs.Closing.{closed_at, read_some, found_inside}
+use Rattle.std.proofs.Common.{ap, length, arith}
+use Rattle.trail.specs.Readings.{height_of}
+use Rattle.trail.specs.Stacks.{held}
+use Rattle.sheet.proofs.Closing.{closed_at}
 use Rattle.sheet.proofs.Heights.{heights_closed}
 use Rattle.sheet.proofs.sheet.Sheet.close.Goals as goal
 
-pub returns-in_err-open : goal.returns-in_err-open
-returns-in_err-open c =
-    let marks = c.args.self.now.marks.now in
-    let ms = take marks.top marks.slots.now in
-    absurd (read_some ms c.in_ok-at.at (found_inside c.args.serial c.in_ok-at.at ms c.in_ok-at.ensures) c.in_err-open.ensures)
+pub invariant_of-self : goal.invariant_of-self
+invariant_of-self c =
+    let x = c.args.self.now in
+    let marks = x.marks in
+    let split = closed_at c.args.serial c.in_ok-at.at marks c.truncate.new.self c.entries.result.now c.find.result c.entries.ensures c.find.ensures c.in_ok-at.ensures.ok_part c.truncate.ensures.memory c.truncate.ensures.rest in
+    let left = heights_closed c.args.serial (height_of x.trail) (held marks) (held c.truncate.new.self) _ x.heights split in
+    record { within = omega (arith, x.within, ap length c.truncate.ensures.memory); heights = left.2 }
 
-pub invariant_of-self-2 : goal.invariant_of-self-2
-invariant_of-self-2 c =
-    let self = c.args.self.now in
-    let marks = self.marks.now in
-    let marks' = c.truncate.new.self in
-    let top = self.trail.now.struck.now.top in
-    let split = closed_at c.args.serial c.in_ok-at.at marks.top marks'.top marks.slots.now marks'.slots.now c.in_ok-open.open marks.within c.in_ok-at.ensures c.in_ok-open.ensures c.truncate.ensures.memory c.truncate.ensures.rest in
-    let left = heights_closed c.args.serial top (take marks.top marks.slots.now) (take marks'.top marks'.slots.now) c.in_ok-open.open self.heights split in
-    record { within = omega (arith, self.within, ap length c.truncate.ensures.memory); heights = left.2 }
-
-pub returns : goal.returns
-returns c =
-    let marks = c.args.self.now.marks.now in
-    let marks' = c.truncate.new.self in
-    record {
-      closed = closed_at c.args.serial c.in_ok-at.at marks.top marks'.top marks.slots.now marks'.slots.now c.in_ok-open.open marks.within c.in_ok-at.ensures c.in_ok-open.ensures c.truncate.ensures.memory c.truncate.ensures.rest;
-      rest = record { rows = refl; slots = refl; top = refl; mark_slots = c.truncate.ensures.memory; given = refl; room = refl };
-    }
+pub returns-clause-closed : goal.returns-clause-closed
+returns-clause-closed c =
+    closed_at c.args.serial c.in_ok-at.at c.args.self.now.marks c.truncate.new.self c.entries.result.now c.find.result c.entries.ensures c.find.ensures c.in_ok-at.ensures.ok_part c.truncate.ensures.memory c.truncate.ensures.rest

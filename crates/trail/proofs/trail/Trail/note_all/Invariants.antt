@@ -1,8 +1,10 @@
 use Rattle.std.proofs.Common.{◌≡◌}
+use Rattle.trail.specs.Readings.{rows_of}
 use Rattle.trail.proofs.Noting.{NotingAll}
 use Rattle.trail.proofs.trail.Trail.note_all.Given as goal
 
 abbrev pub invariant-loop-choice : goal.invariant-loop-choice
-invariant-loop-choice l =
-    (l.self.rows.now ≡ l.initial.self.rows.now)
-    × NotingAll l.row l.lost l.choice-iterator.rest l.initial.self.struck.now.slots.now l.initial.self.struck.now.top l.self.struck.now.slots.now l.self.struck.now.top
+invariant-loop-choice l = record {
+  rows : rows_of l.self ≡ rows_of l.initial.self;
+  noting : NotingAll l.row l.lost l.choice-iterator.rest l.initial.self.struck l.self.struck;
+}

@@ -1,37 +1,27 @@
 use Rattle.std.proofs.Common.{◌<◌, set, sym, ap, ◌∙◌, subst, arith}
 use Rattle.std.proofs.lemmas.List.{length-set}
 use Rattle.banks.specs.Rules.{row}
+use Rattle.trail.specs.Readings.{rows_of}
 use Rattle.trail.specs.Trails.{Parts}
-use Rattle.trail.proofs.Members.{some_member}
-use Rattle.trail.proofs.Storing.{some_set, room_for_lost, spare_set, stored_as}
+use Rattle.trail.proofs.Storing.{set_owes, room_for_lost, stored_as}
 use Rattle.trail.proofs.trail.Trail.store.Goals as goal
 
 pub invariant_of-self : goal.invariant_of-self
 invariant_of-self c =
-    let self = c.args.self.now in
-    let s = self.rows.now in
-    let k = c.mask-mask.result in
-    let parts : Parts (row s c.args.row) k c.args.lost = subst (λ m. Parts (row s c.args.row) m c.args.lost) (sym c.mask-mask.ensures) c.requires.1 in
-    let some : 0 < k = omega (arith, c.mask-mask.ensures, c.args.narrowed.some) in
-    let long = length-set s c.args.row k in
-    record {
-      some = some_set s c.args.row k c.requires.0 self.some (some_member k some c.mask-mask.type_inv);
-      few = omega (arith, long, self.few);
-      enough = omega (arith, long, self.enough);
-      spare = spare_set s c.args.row k c.args.lost self.struck.now.top c.requires.0 parts self.spare;
-    }
+    let t = c.args.self.now in
+    let k = c.mask.result in
+    let parts = subst (λ m. Parts (row (rows_of t) c.args.row) m c.args.lost) (sym c.mask.ensures) c.requires.parts in
+    let some : 0 < k = omega (arith, c.mask.ensures, c.args.narrowed.some) in
+    let owed = set_owes t c.args.row k c.requires.inside some c.mask.type_inv (omega (arith, room_for_lost t c.args.row k c.args.lost c.requires.inside parts, length-set (rows_of t) c.args.row k)) in
+    record { some = owed.0; few = owed.1; enough = owed.2; spare = owed.3 }
 
-pub note_all-requires : goal.note_all-requires
-note_all-requires c =
-    let self = c.args.self.now in
-    let s = self.rows.now in
-    let k = c.mask-mask.result in
-    let parts : Parts (row s c.args.row) k c.args.lost = subst (λ m. Parts (row s c.args.row) m c.args.lost) (sym c.mask-mask.ensures) c.requires.1 in
-    (omega (arith, c.requires.0, length-set s c.args.row k), room_for_lost s c.args.row k c.args.lost self.struck.now.top c.requires.0 parts self.spare)
+pub note_all-requires-clause-spare : goal.note_all-requires-clause-spare
+note_all-requires-clause-spare c =
+    let t = c.args.self.now in
+    room_for_lost t c.args.row c.mask.result c.args.lost c.requires.inside (subst (λ m. Parts (row (rows_of t) c.args.row) m c.args.lost) (sym c.mask.ensures) c.requires.parts)
 
 pub returns : goal.returns
 returns c =
-    let struck = c.args.self.now.struck.now in
-    let struck' = c.note_all.new.self.struck.now in
-    let stored = c.note_all.ensures.rows ∙ ap (λ k. set c.args.self.now.rows.now c.args.row k) c.mask-mask.ensures in
-    stored_as c.args.self.now.rows.now c.note_all.new.self.rows.now c.args.row c.args.narrowed.mask c.args.lost struck.slots.now struck'.slots.now struck.top struck'.top c.requires.1 stored c.note_all.ensures.noted
+    let t = c.args.self.now in
+    stored_as t c.note_all.new.self c.args.row c.args.narrowed.mask c.args.lost c.requires.parts
+    (c.note_all.ensures.rows ∙ ap (set (rows_of t) c.args.row) c.mask.ensures) c.note_all.ensures.noted

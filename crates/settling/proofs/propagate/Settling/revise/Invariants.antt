@@ -1,0 +1,6 @@
+use Rattle.settling.specs.States.{state_of, rules_of, Keeps}
+use Rattle.settling.proofs.Advancing.{Bringing}
+use Rattle.settling.proofs.propagate.Settling.revise.Given as goal
+
+abbrev pub invariant-loop-place : goal.invariant-loop-place
+invariant-loop-place g l = let x = l.initial.self in Keeps x l.self × Bringing (rules_of x) l.rule l.mask-items l.place (state_of x) (state_of l.self)
