@@ -9,7 +9,8 @@ fn table_holds()
     ensures { CasesHold }
 {}
 
-// How many worked cases the table has, each of which is proved to hold.
+// How many worked cases the table has, each of which is proved to hold. The table of runs has a function of this form too: each carries the
+// theorem of its own table in its contract.
 pub fn proved_cases() -> usize
     ensures count { result ≡ length table }
     ensures hold { CasesHold }

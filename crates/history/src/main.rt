@@ -1,27 +1,34 @@
 // Whole histories of sheets: orders that need one saw, a settle by each waiting list, and trials that are gone back from.
 #![tactic(auto)]
 
-ghost use Rattle.std.specs.Prelude.{◌≡◌, Decides};
+ghost use Rattle.std.specs.Prelude.{◌≡◌, pos};
+ghost use Rattle.differences.specs.declared.difference.Relation.TheVariants.{Unequal};
 
 use banks::bank::Bank;
 use banks::pair::Pair;
 use diagrams::bank::DiagramBank;
-use diagrams::diagram::{Diagram, Span};
+use diagrams::diagram::{Arc, Diagram, Span};
 use differences::bank::DifferenceBank;
-use differences::difference::Difference;
+use differences::difference::{Difference, Relation};
 use rows::mask::only;
+use rows::refusal::Numbered;
 use tables::bank::TableBank;
 use tables::table::{STAR, Table};
+use texts::word;
 use waiting::classed::Classed;
 use waiting::oldest::OldestFirst;
 
-mod rules;
 mod runs;
 mod show;
 
-use rules::{arc, below, not_the_same_hour};
 use runs::{Hold, run};
-use show::{told, word};
+
+// Not the same hour, of two orders that need the one saw. Each program says so in its own words.
+fn not_the_same_hour(x: usize, y: usize) -> Difference
+    ensures { result ≡ record { x = x; y = y; offset = pos 0; relation = Unequal } }
+{
+    Difference::new(x, y, 0, Relation::Unequal)
+}
 
 // The history of orders that need one saw, with rules of which hours differ.
 fn one_saw(
@@ -32,7 +39,7 @@ fn one_saw(
     holds: &[Hold],
 ) -> anyhow::Result<()> {
     println!(rt; "{title}")?;
-    told(rt.alloc(), DifferenceBank::check(orders.len(), differences))?;
+    DifferenceBank::check(orders.len(), differences).map_err(|why| why.refused())?;
     let bank = DifferenceBank::make(orders.len(), differences);
     let mut list = OldestFirst::make(3);
     run(rt, orders, &bank, &mut list, holds)
@@ -65,13 +72,6 @@ fn run_orders(rt: &HostRuntime) -> anyhow::Result<()> {
     )
 }
 
-// Whether two sheets have the same rows.
-fn same_rows(these: &[u64], those: &[u64]) -> bool
-    ensures { Decides result (these.now ≡ those.now) }
-{
-    these == those
-}
-
 // Three equal rows are settled by each waiting list, and the two ends compared.
 fn run_lists<B: Bank>(rt: &HostRuntime, bank: &B) -> anyhow::Result<()> {
     let mut these = [15u64; 3];
@@ -82,8 +82,7 @@ fn run_lists<B: Bank>(rt: &HostRuntime, bank: &B) -> anyhow::Result<()> {
     println!(rt; "The same rows and rules, by the list of classes")?;
     let mut classed = Classed::make(&[3, 2, 1]);
     run(rt, &mut those, bank, &mut classed, &[])?;
-    let same = word(same_rows(&these, &those));
-    println!(rt; "The rows of both ends are equal: {same}")?;
+    println!(rt; "The rows of both ends are equal: {}", word(these == those))?;
     Ok(())
 }
 
@@ -96,44 +95,37 @@ fn run_three<A: Bank + Drop, B: Bank + Drop, C: Bank + Drop>(
 ) -> anyhow::Result<()> {
     let (later, fits) = Pair::new(second, third);
     let (all, fit) = Pair::new(first, later);
-    told(rt.alloc(), fits)?;
-    told(rt.alloc(), fit)?;
+    fits.map_err(|why| why.refused())?;
+    fit.map_err(|why| why.refused())?;
     run_lists(rt, &all)
 }
 
 // A bank of each kind: the choice of row 0 is below that of row 1, a table names rows 1 and 2, and a diagram rows 0 and 2.
 fn run_banks(rt: &HostRuntime) -> anyhow::Result<()> {
-    let differences = [below(0, 1)];
+    let differences = [Difference::new(0, 1, 1, Relation::AtMost)];
+    let tables = [Table {
+        rows: &[1, 2],
+        start: 0,
+        lines: 2,
+    }];
     let arcs = [
-        arc(0, 0, 1),
-        arc(0, 2, 2),
-        arc(0, 3, 2),
-        arc(1, 1, 3),
-        arc(1, 3, 3),
-        arc(2, 2, 3),
+        Arc::new(0, 0, 1),
+        Arc::new(0, 2, 2),
+        Arc::new(0, 3, 2),
+        Arc::new(1, 1, 3),
+        Arc::new(1, 3, 3),
+        Arc::new(2, 2, 3),
     ];
+    let diagrams = [Diagram {
+        rows: &[0, 2],
+        nodes: Span::new(0, 4),
+        arcs: Span::new(0, 6),
+    }];
     run_three(
         rt,
         DifferenceBank::make(3, &differences),
-        TableBank::make(
-            3,
-            &[Table {
-                rows: &[1, 2],
-                start: 0,
-                lines: 2,
-            }],
-            &[1, 2, 2, STAR],
-        ),
-        DiagramBank::make(
-            3,
-            &[0, 1, 1, 2],
-            &arcs,
-            &[Diagram {
-                rows: &[0, 2],
-                nodes: Span { start: 0, count: 4 },
-                arcs: Span { start: 0, count: 6 },
-            }],
-        ),
+        TableBank::make(3, &tables, &[1, 2, 2, STAR]),
+        DiagramBank::make(3, &[0, 1, 1, 2], &arcs, &diagrams),
     )
 }
 

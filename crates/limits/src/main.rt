@@ -9,18 +9,13 @@ use differences::bank::DifferenceBank;
 use differences::difference::{Difference, Relation};
 use rows::mask::{count, only};
 use rows::row::Row;
-use texts::{answer_text, number_text, sets_text};
+use texts::{Answer, NumberOr, Sets};
 
 // A difference between the rows 0 and 1.
 fn between(relation: Relation, offset: i32) -> Difference
     ensures { result ≡ record { x = 0; y = 1; offset = offset; relation = relation } }
 {
-    Difference {
-        x: 0,
-        y: 1,
-        offset,
-        relation,
-    }
+    Difference::new(0, 1, offset, relation)
 }
 
 // Prints what the check of a bank answers, and what the bank that is made has.
@@ -30,12 +25,14 @@ fn print_bank(
     width: usize,
     differences: &[Difference],
 ) -> anyhow::Result<()> {
-    let heap = rt.alloc();
-    let text = answer_text(heap, &DifferenceBank::check(width, differences))?;
+    let answer = DifferenceBank::check(width, differences);
     let bank = DifferenceBank::make(width, differences);
-    let made = bank.width();
-    let count = bank.rule_count();
-    println!(rt; "{label}: {text}; made with width {made} and {count} rules")?;
+    println!(rt;
+        "{label}: {}; made with width {} and {} rules",
+        Answer(&answer),
+        bank.width(),
+        bank.rule_count()
+    )?;
     Ok(())
 }
 
@@ -45,30 +42,12 @@ fn print_bounds(rt: &HostRuntime) -> anyhow::Result<()> {
     print_bank(rt, "offset -63", 2, &[between(Relation::AtMost, -63)])?;
     print_bank(rt, "offset 64", 2, &[between(Relation::Equal, 64)])?;
     print_bank(rt, "offset -64", 2, &[between(Relation::AtMost, -64)])?;
-    print_bank(
-        rt,
-        "modulus 1",
-        2,
-        &[between(Relation::Congruent { modulus: 1 }, 0)],
-    )?;
-    print_bank(
-        rt,
-        "modulus 64",
-        2,
-        &[between(Relation::Congruent { modulus: 64 }, 0)],
-    )?;
-    print_bank(
-        rt,
-        "modulus 0",
-        2,
-        &[between(Relation::Congruent { modulus: 0 }, 0)],
-    )?;
-    print_bank(
-        rt,
-        "modulus 65",
-        2,
-        &[between(Relation::Congruent { modulus: 65 }, 0)],
-    )
+    for modulus in [1, 64, 0, 65] {
+        let label = format!(in rt.alloc(); "modulus {modulus}")?;
+        let congruent = between(Relation::Congruent { modulus }, 0);
+        print_bank(rt, label.as_str(), 2, &[congruent])?;
+    }
+    Ok(())
 }
 
 // Banks at the limits of their size.
@@ -126,10 +105,11 @@ fn run(rt: &HostRuntime) -> anyhow::Result<()> {
 // Rows from a mask of no choice, of one and of all.
 fn print_rows(rt: &HostRuntime) -> anyhow::Result<()> {
     for mask in [0, only(0), only(63), u64::MAX] {
-        let heap = rt.alloc();
-        let text = answer_text(heap, &Row::new(mask))?;
-        let choices = count(mask);
-        println!(rt; "row of {choices} choices: {text}")?;
+        println!(rt;
+            "row of {} choices: {}",
+            count(mask),
+            Answer(&Row::new(mask))
+        )?;
     }
     Ok(())
 }
@@ -138,20 +118,16 @@ fn print_rows(rt: &HostRuntime) -> anyhow::Result<()> {
 fn print_calls(rt: &HostRuntime) -> anyhow::Result<()> {
     let differences = [
         between(Relation::Equal, 1),
-        Difference {
-            x: 1,
-            y: 2,
-            offset: 0,
-            relation: Relation::AtMost,
-        },
+        Difference::new(1, 2, 0, Relation::AtMost),
     ];
     let bank = DifferenceBank::make(3, &differences);
     for rule in 0..3 {
-        let arity = number_text(rt.alloc(), &bank.arity(rule))?;
-        println!(rt; "arity of rule {rule}: {arity}")?;
+        println!(rt; "arity of rule {rule}: {}", NumberOr(&bank.arity(rule)))?;
         for place in 0..3 {
-            let row = number_text(rt.alloc(), &bank.row_at(rule, place))?;
-            println!(rt; "row at place {place} of rule {rule}: {row}")?;
+            println!(rt;
+                "row at place {place} of rule {rule}: {}",
+                NumberOr(&bank.row_at(rule, place))
+            )?;
         }
     }
     let rows = [only(0) | only(1), only(2), only(2), only(5)];
@@ -163,7 +139,8 @@ fn print_calls(rt: &HostRuntime) -> anyhow::Result<()> {
     print_support(rt, &bank, 0, &rows[0..2], 1)
 }
 
-// Prints what a support answers and leaves in masks that all hold choice 7 before.
+// Prints what a support answers and leaves in masks that all hold choice 7 before. The program of the other banks tells the rows by their
+// masks and not by their number; one function for both would be handed that part of the line.
 fn print_support<B: Bank>(
     rt: &HostRuntime,
     bank: &B,
@@ -171,11 +148,13 @@ fn print_support<B: Bank>(
     rows: &[u64],
     masks: usize,
 ) -> anyhow::Result<()> {
-    let heap = rt.alloc();
-    let count = rows.len();
-    let mut memory = vec![in heap; only(7); masks]?;
-    let text = answer_text(heap, &bank.support(rule, rows, &mut memory))?;
-    let left = sets_text(heap, memory.as_slice())?;
-    println!(rt; "support of rule {rule} on {count} rows with {masks} masks: {text}, masks{left}")?;
+    let mut memory = vec![in rt.alloc(); only(7); masks]?;
+    let answer = bank.support(rule, rows, &mut memory);
+    println!(rt;
+        "support of rule {rule} on {} rows with {masks} masks: {}, masks{}",
+        rows.len(),
+        Answer(&answer),
+        Sets(memory.as_slice())
+    )?;
     Ok(())
 }

@@ -7,9 +7,10 @@ ghost use Rattle.differences.specs.declared.difference.Relation.TheVariants.{Une
 use differences::bank::DifferenceBank;
 use differences::difference::{Difference, Relation};
 use rows::mask::only;
+use rows::refusal::Numbered;
 use sheet::mark::OpenMark;
 use sheet::sheet::Sheet;
-use texts::{refusal_text, set_text};
+use texts::Set;
 use trail::stack::Stack;
 use trail::trail::{ENTRIES_A_ROW, Trail};
 use waiting::oldest::OldestFirst;
@@ -18,18 +19,13 @@ mod nested;
 mod trial;
 
 use nested::strike_and_look;
-use trial::{Stopped, place};
+use trial::place;
 
-// That two orders do not have the same hour.
+// That two orders do not have the same hour. Each program says so in its own words.
 fn not_the_same_hour(x: usize, y: usize) -> Difference
     ensures { result ≡ record { x = x; y = y; offset = pos 0; relation = Unequal } }
 {
-    Difference {
-        x,
-        y,
-        offset: 0,
-        relation: Relation::Unequal,
-    }
+    Difference::new(x, y, 0, Relation::Unequal)
 }
 
 // The rules: no two of the first three orders have the same hour.
@@ -43,32 +39,15 @@ fn apart() -> [Difference; 3] {
 
 // Prints the hours of each order, and how many marks are open and were given and how many choices are struck.
 fn print_sheet(rt: &HostRuntime, sheet: &Sheet) -> anyhow::Result<()> {
-    for order in 0..sheet.trail().row_count() {
-        let hours = set_text(rt.alloc(), sheet.trail().mask(order))?;
-        println!(rt; "  order {order}: hours {hours}")?;
+    for (order, hours) in sheet.trail().rows().iter().enumerate() {
+        println!(rt; "  order {order}: hours {}", Set(*hours))?;
     }
-    let open = sheet.open();
-    let given = sheet.given();
-    let struck = sheet.trail().height();
-    println!(rt; "  marks open: {open}, given: {given}; hours struck: {struck}")?;
-    Ok(())
-}
-
-// Prints why a trial was not carried through.
-fn print_stopped(rt: &HostRuntime, why: Stopped) -> anyhow::Result<()> {
-    match why {
-        Stopped::Sheet(error) => {
-            let text = refusal_text(rt.alloc(), &error)?;
-            println!(rt; "  {text}")?;
-        }
-        Stopped::Settle(error) => {
-            let text = refusal_text(rt.alloc(), &error)?;
-            println!(rt; "  {text}")?;
-        }
-        Stopped::WipedOut(rule) => {
-            println!(rt; "  wiped out by rule {rule}")?;
-        }
-    }
+    println!(rt;
+        "  marks open: {}, given: {}; hours struck: {}",
+        sheet.open(),
+        sheet.given(),
+        sheet.trail().height()
+    )?;
     Ok(())
 }
 
@@ -85,7 +64,7 @@ fn print_trial(
     let mut list = OldestFirst::make(3);
     match place(sheet, &bank, &mut list, order, hour) {
         Ok(struck) => println!(rt; "  settled, struck: {struck}")?,
-        Err(why) => print_stopped(rt, why)?,
+        Err(why) => println!(rt; "  {why}")?,
     }
     print_sheet(rt, sheet)
 }
@@ -98,58 +77,12 @@ fn print_nested(
     hour: usize,
     other: usize,
 ) -> anyhow::Result<()> {
+    print!(rt; "Order {order} without hour {hour}, and without {other} for a look: ")?;
     match strike_and_look(sheet, order, hour, other) {
-        Ok(mask) => {
-            let left = set_text(rt.alloc(), mask)?;
-            println!(rt;
-                "Order {order} without hour {hour}, and without {other} for a look: hours {left}"
-            )?;
-        }
-        Err(why) => {
-            let text = refusal_text(rt.alloc(), &why)?;
-            println!(rt;
-                "Order {order} without hour {hour}, and without {other} for a look: {text}"
-            )?;
-        }
+        Ok(mask) => println!(rt; "hours {}", Set(mask))?,
+        Err(why) => println!(rt; "{}", why.refused())?,
     }
     print_sheet(rt, sheet)
-}
-
-// The trials on the sheet of a trail.
-fn on_trail<'a, 'b, 'c>(
-    rt: &HostRuntime,
-    trail: &'a mut Trail<'b, 'c>,
-    marks: &'a mut Stack<'b, OpenMark>,
-) -> anyhow::Result<()> {
-    let mut sheet = Sheet::make(trail, marks);
-    println!(rt; "Orders")?;
-    print_sheet(rt, &sheet)?;
-    print_trial(rt, &mut sheet, 0, 9)?;
-    print_trial(rt, &mut sheet, 0, 10)?;
-    print_nested(rt, &mut sheet, 3, 9, 10)
-}
-
-// The trail of some masks and the stack of marks, and the trials on their sheet.
-fn on_record<'a, 'b>(
-    rt: &HostRuntime,
-    masks: &'a mut [u64],
-    record: &'a mut Stack<'b, usize>,
-    slots: &'a mut [OpenMark],
-) -> anyhow::Result<()> {
-    let mut trail = Trail::make(masks, record);
-    let mut marks = Stack::new(slots);
-    on_trail(rt, &mut trail, &mut marks)
-}
-
-// The record over some memory, and the trials on its sheet.
-fn on_memory(
-    rt: &HostRuntime,
-    masks: &mut [u64],
-    entries: &mut [usize],
-    slots: &mut [OpenMark],
-) -> anyhow::Result<()> {
-    let mut record = Stack::new(entries);
-    on_record(rt, masks, &mut record, slots)
 }
 
 // Four orders: two at hours 9, 10 and 11, one at 9 only, and one more at 9, 10 and 11.
@@ -158,7 +91,13 @@ fn run(rt: &HostRuntime) -> anyhow::Result<()> {
     let mut masks = [three, three, only(9), three];
     let mut entries = [0usize; 4 * ENTRIES_A_ROW];
     let mut slots = [OpenMark::blank(); 2];
-    on_memory(rt, &mut masks, &mut entries, &mut slots)
+    let trail = Trail::make(&mut masks, Stack::new(&mut entries));
+    let mut sheet = Sheet::make(trail, Stack::new(&mut slots));
+    println!(rt; "Orders")?;
+    print_sheet(rt, &sheet)?;
+    print_trial(rt, &mut sheet, 0, 9)?;
+    print_trial(rt, &mut sheet, 0, 10)?;
+    print_nested(rt, &mut sheet, 3, 9, 10)
 }
 
 fn main(rt: HostRuntime) -> anyhow::Result<()> {

@@ -6,7 +6,7 @@ use sheet::refusal::SheetError;
 use sheet::sheet::Sheet;
 
 // Strikes a choice of a row to keep it struck, and then another for a look, and answers the row's mask at that look. The sheet goes back by
-// the inner mark and keeps by the outer one. Both are spent also where a strike is refused, and the first refusal is answered.
+// the inner mark and keeps by the outer one. Both are spent also where a call is refused, and then a refusal is answered.
 pub(crate) fn strike_and_look(
     sheet: &mut Sheet,
     row: usize,
@@ -17,6 +17,7 @@ pub(crate) fn strike_and_look(
 {
     let outer = sheet.mark()?;
     let struck = sheet.strike(row, choice);
+    // By a match, since the outer mark has to be spent before the refusal is handed on.
     let inner = match sheet.mark() {
         Ok(inner) => inner,
         Err(why) => {

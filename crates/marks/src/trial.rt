@@ -3,10 +3,12 @@ ghost use Rattle.histories.specs.Laws.{LeadsOn};
 ghost use Rattle.sheet.specs.Memory.{state_of};
 
 use banks::bank::Bank;
+use rows::refusal::Numbered;
 use settling::outcome::Outcome;
 use settling::refusal::SettleError;
 use sheet::refusal::SheetError;
 use sheet::sheet::Sheet;
+use std::fmt;
 use waiting::list::WaitingList;
 
 // Why a trial was not carried through.
@@ -20,7 +22,30 @@ pub(crate) enum Stopped {
     WipedOut(usize),
 }
 
-// Holds a choice in a row and settles; answers how many choices the settle struck.
+impl From<SheetError> for Stopped {
+    fn from(why: SheetError) -> Stopped {
+        Stopped::Sheet(why)
+    }
+}
+
+impl From<SettleError> for Stopped {
+    fn from(why: SettleError) -> Stopped {
+        Stopped::Settle(why)
+    }
+}
+
+impl fmt::Display for Stopped {
+    fn fmt<W: fmt::Write>(&self, f: &mut fmt::Formatter<W>) -> fmt::Result {
+        match self {
+            Stopped::Sheet(why) => write!(f, "{}", why.refused()),
+            Stopped::Settle(why) => write!(f, "{}", why.refused()),
+            Stopped::WipedOut(rule) => write!(f, "wiped out by rule {rule}"),
+        }
+    }
+}
+
+// Holds a choice in a row and settles; answers how many choices the settle struck. Sheet, bank and list are handed on one by one, as the
+// library's call takes them.
 fn hold_and_settle<B: Bank, L: WaitingList>(
     sheet: &mut Sheet,
     bank: &B,
@@ -30,13 +55,10 @@ fn hold_and_settle<B: Bank, L: WaitingList>(
 ) -> Result<usize, Stopped>
     ensures { LeadsOn (state_of sheet.old) (state_of sheet.new) }
 {
-    if let Err(why) = sheet.hold(row, choice) {
-        return Err(Stopped::Sheet(why));
-    }
-    match sheet.settle(bank, list) {
-        Ok(Outcome::Settled(struck)) => Ok(struck),
-        Ok(Outcome::Wiped(rule)) => Err(Stopped::WipedOut(rule)),
-        Err(why) => Err(Stopped::Settle(why)),
+    sheet.hold(row, choice)?;
+    match sheet.settle(bank, list)? {
+        Outcome::Settled(struck) => Ok(struck),
+        Outcome::Wiped(rule) => Err(Stopped::WipedOut(rule)),
     }
 }
 
@@ -50,17 +72,14 @@ pub(crate) fn place<B: Bank, L: WaitingList>(
 ) -> Result<usize, Stopped>
     ensures { LeadsOn (state_of sheet.old) (state_of sheet.new) }
 {
-    let mark = match sheet.mark() {
-        Ok(mark) => mark,
-        Err(why) => return Err(Stopped::Sheet(why)),
-    };
+    let mark = sheet.mark()?;
     match hold_and_settle(sheet, bank, list, row, choice) {
         Ok(struck) => {
-            let _ = sheet.keep(mark);
+            sheet.keep(mark)?;
             Ok(struck)
         }
         Err(why) => {
-            let _ = sheet.back(mark);
+            sheet.back(mark)?;
             Err(why)
         }
     }

@@ -1,34 +1,40 @@
 // A planner's question: one saw, some orders and their free hours. Which order may still be released?
 #![tactic(auto)]
 
+ghost use Rattle.std.specs.Prelude.{◌≡◌, pos};
+ghost use Rattle.differences.specs.declared.difference.Relation.TheVariants.{Unequal};
+
 use banks::bank::Bank;
 use banks::limits::MAX_ARITY;
 use banks::pair::Pair;
 use banks::questions::{supported, supported_choices};
 use diagrams::bank::DiagramBank;
-use diagrams::diagram::{Diagram, Span};
+use diagrams::diagram::{Arc, Diagram, Span};
 use differences::bank::DifferenceBank;
-use differences::difference::Difference;
+use differences::difference::{Difference, Relation};
 use rows::mask::{count, only};
+use rows::refusal::Numbered;
 use rows::row::Row;
 use tables::bank::TableBank;
 use tables::table::{STAR, Table};
-use texts::set_text;
+use texts::{Set, word};
 
 mod plans;
-mod rules;
-mod show;
 
 use plans::plan_exists;
-use rules::{arc, not_the_same_hour};
-use show::{told, word};
+
+// Not the same hour, of two orders that need the one saw. Each program says so in its own words.
+fn not_the_same_hour(x: usize, y: usize) -> Difference
+    ensures { result ≡ record { x = x; y = y; offset = pos 0; relation = Unequal } }
+{
+    Difference::new(x, y, 0, Relation::Unequal)
+}
 
 // Prints each order with its free hours.
 fn print_orders(rt: &HostRuntime, orders: &[u64]) -> anyhow::Result<()> {
     for (order, mask) in orders.iter().enumerate() {
-        let row = told(rt.alloc(), Row::new(*mask))?;
-        let free = set_text(rt.alloc(), row.mask())?;
-        println!(rt; "  order {order}: hours {free}")?;
+        let row = Row::new(*mask).map_err(|why| why.refused())?;
+        println!(rt; "  order {order}: hours {}", Set(row.mask()))?;
     }
     Ok(())
 }
@@ -42,12 +48,15 @@ fn print_support<B: Bank>(
     orders: &[u64],
 ) -> anyhow::Result<()> {
     let mut masks = [0u64; MAX_ARITY];
-    told(rt.alloc(), bank.support(rule, orders, &mut masks))?;
-    let arity = told(rt.alloc(), bank.arity(rule))?;
+    bank.support(rule, orders, &mut masks)
+        .map_err(|why| why.refused())?;
+    let arity = bank.arity(rule).map_err(|why| why.refused())?;
     for (place, mask) in masks.iter().take(arity).enumerate() {
-        let order = told(rt.alloc(), bank.row_at(rule, place))?;
-        let shown = set_text(rt.alloc(), *mask)?;
-        println!(rt; "  rule {rule}, {name}: order {order} has support at {shown}")?;
+        let order = bank.row_at(rule, place).map_err(|why| why.refused())?;
+        println!(rt;
+            "  rule {rule}, {name}: order {order} has support at {}",
+            Set(*mask)
+        )?;
     }
     Ok(())
 }
@@ -59,11 +68,13 @@ fn print_orders_that_may_go<B: Bank>(
     orders: &[u64],
 ) -> anyhow::Result<()> {
     for (order, mask) in orders.iter().enumerate() {
-        let left = told(rt.alloc(), supported_choices(bank, orders, order))?;
-        let free = count(*mask);
-        let supported = count(left);
-        let go = word(left != 0);
-        println!(rt; "  order {order} may go: {go}, support at {supported} of {free} hours")?;
+        let left = supported_choices(bank, orders, order).map_err(|why| why.refused())?;
+        println!(rt;
+            "  order {order} may go: {}, support at {} of {} hours",
+            word(left != 0),
+            count(left),
+            count(*mask)
+        )?;
     }
     Ok(())
 }
@@ -77,17 +88,17 @@ fn print_sheet(
 ) -> anyhow::Result<()> {
     println!(rt; "{title}")?;
     print_orders(rt, orders)?;
-    told(rt.alloc(), DifferenceBank::check(orders.len(), differences))?;
+    DifferenceBank::check(orders.len(), differences).map_err(|why| why.refused())?;
     let bank = DifferenceBank::make(orders.len(), differences);
     for rule in 0..bank.rule_count() {
         print_support(rt, &bank, "not the same hour", rule, orders)?;
     }
     print_orders_that_may_go(rt, &bank, orders)?;
-    let all = word(told(rt.alloc(), supported(&bank, orders))?);
-    println!(rt; "  every hour has support in every rule: {all}")?;
+    let all = supported(&bank, orders).map_err(|why| why.refused())?;
+    println!(rt; "  every hour has support in every rule: {}", word(all))?;
     let mut memory = vec![in rt.alloc(); 0u8; orders.len()]?;
-    let plan = word(told(rt.alloc(), plan_exists(&bank, orders, &mut memory))?);
-    println!(rt; "  a plan for all orders exists: {plan}")?;
+    let plan = plan_exists(&bank, orders, &mut memory).map_err(|why| why.refused())?;
+    println!(rt; "  a plan for all orders exists: {}", word(plan))?;
     Ok(())
 }
 
@@ -101,9 +112,8 @@ fn print_both<A: Bank + Drop, B: Bank + Drop>(
     print_support(rt, &table, "the table", 0, orders)?;
     print_support(rt, &diagram, "the diagram", 0, orders)?;
     let (both, answer) = Pair::new(table, diagram);
-    told(rt.alloc(), answer)?;
-    let count = both.rule_count();
-    println!(rt; "  rules of both makers as one bank: {count}")?;
+    answer.map_err(|why| why.refused())?;
+    println!(rt; "  rules of both makers as one bank: {}", both.rule_count())?;
     print_orders_that_may_go(rt, &both, orders)
 }
 
@@ -111,29 +121,26 @@ fn print_both<A: Bank + Drop, B: Bank + Drop>(
 fn print_makers(rt: &HostRuntime, orders: &[u64]) -> anyhow::Result<()> {
     println!(rt; "One maker's table and another's diagram")?;
     print_orders(rt, orders)?;
-    let four = Span { start: 0, count: 4 };
-    let arcs = [arc(0, 9, 1), arc(0, 10, 2), arc(1, 10, 3), arc(2, 11, 3)];
+    let table = [Table {
+        rows: &[0, 1],
+        start: 0,
+        lines: 2,
+    }];
+    let arcs = [
+        Arc::new(0, 9, 1),
+        Arc::new(0, 10, 2),
+        Arc::new(1, 10, 3),
+        Arc::new(2, 11, 3),
+    ];
+    let diagram = [Diagram {
+        rows: &[0, 1],
+        nodes: Span::new(0, 4),
+        arcs: Span::new(0, 4),
+    }];
     print_both(
         rt,
-        TableBank::make(
-            2,
-            &[Table {
-                rows: &[0, 1],
-                start: 0,
-                lines: 2,
-            }],
-            &[9, STAR, 10, 11],
-        ),
-        DiagramBank::make(
-            2,
-            &[0, 1, 1, 2],
-            &arcs,
-            &[Diagram {
-                rows: &[0, 1],
-                nodes: four,
-                arcs: four,
-            }],
-        ),
+        TableBank::make(2, &table, &[9, STAR, 10, 11]),
+        DiagramBank::make(2, &[0, 1, 1, 2], &arcs, &diagram),
         orders,
     )
 }

@@ -26,10 +26,10 @@ pub(crate) fn goes_on<B: Bank>(
     if plan.len() < bank.width() {
         return Err(CallError::TooFewRows);
     }
-    if from >= rows.len() {
+    let Some(row) = rows.get(from) else {
         return Ok(false);
-    }
-    for choice in Walk::over(rows[from]) {
+    };
+    for choice in Walk::over(*row) {
         plan[from] = choice;
         if goes_on(bank, rows, plan, from + 1)? {
             return Ok(true);

@@ -4,9 +4,9 @@ use sheet::mark::Mark;
 use sheet::refusal::SheetError;
 use sheet::sheet::Sheet;
 use std::alloc::AllocFailed as Refused;
-use std::io;
+use std::fmt;
 
-// A call. A mark is spent by its place in the hand.
+// A call, and not a closure that makes it, since each is printed before it is made. A mark is spent by its place in the hand.
 #[derive(Clone, Copy)]
 pub(crate) enum Call {
     Strike(usize, usize),
@@ -18,27 +18,29 @@ pub(crate) enum Call {
     Many(usize),
 }
 
-// Prints a call.
-pub(crate) fn print_call(rt: &HostRuntime, call: Call) -> io::Result<()> {
-    match call {
-        Call::Strike(row, choice) => print!(rt; "  strike {choice} of row {row}"),
-        Call::Hold(row, choice) => print!(rt; "  hold {choice} of row {row}"),
-        Call::Mark => print!(rt; "  mark"),
-        Call::Back(place) => print!(rt; "  back by the mark at {place}"),
-        Call::Keep(place) => print!(rt; "  keep by the mark at {place}"),
-        Call::Many(count) => print!(rt; "  {count} times mark and keep"),
+impl fmt::Display for Call {
+    fn fmt<W: fmt::Write>(&self, f: &mut fmt::Formatter<W>) -> fmt::Result {
+        match self {
+            Call::Strike(row, choice) => write!(f, "strike {choice} of row {row}"),
+            Call::Hold(row, choice) => write!(f, "hold {choice} of row {row}"),
+            Call::Mark => write!(f, "mark"),
+            Call::Back(place) => write!(f, "back by the mark at {place}"),
+            Call::Keep(place) => write!(f, "keep by the mark at {place}"),
+            Call::Many(count) => write!(f, "{count} times mark and keep"),
+        }
     }
 }
 
 // The mark at a place of the hand.
 fn picked(hand: &mut Vec<Mark>, place: usize) -> anyhow::Result<Mark> {
+    // Tested first, since `remove` takes the mark out, which `get` cannot.
     if place >= hand.len() {
         return Err(anyhow!("no mark at this place of the hand"));
     }
     Ok(hand.remove(place))
 }
 
-// Asks for a mark, and takes it in hand.
+// Asks for a mark, and takes it in hand. By a match, since a mark that finds no place in hand has to be spent first.
 fn take_mark(sheet: &mut Sheet, hand: &mut Vec<Mark>) -> anyhow::Result<Result<(), SheetError>> {
     match sheet.mark() {
         Err(why) => Ok(Err(why)),
@@ -46,6 +48,7 @@ fn take_mark(sheet: &mut Sheet, hand: &mut Vec<Mark>) -> anyhow::Result<Result<(
             Ok(()) => Ok(Ok(())),
             Err(refused) => {
                 let Refused { value } = refused;
+                // Its answer is let go: what is reported is that no memory is left.
                 let _ = sheet.keep(value);
                 Err(anyhow!("no memory for a mark"))
             }

@@ -4,7 +4,6 @@
 use sheet::mark::Mark;
 
 mod calls;
-mod compare;
 mod play;
 mod seen;
 mod show;

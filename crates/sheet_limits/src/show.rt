@@ -1,27 +1,29 @@
-// How the program prints what it compares.
+// How the program prints numbers and the marks in hand.
 use sheet::mark::Mark;
-use std::alloc::{AllocError, Global};
-
-// Yes or no.
-pub(crate) fn word(answer: bool) -> &'static str {
-    if answer { "yes" } else { "no" }
-}
+use std::fmt;
 
 // Some numbers, each after a space.
-pub(crate) fn numbers_text(heap: Global, numbers: &[usize]) -> Result<String, AllocError> {
-    let mut text = String::new(heap);
-    for number in numbers {
-        let digits = format!(in heap; " {number}")?;
-        text.push_str(digits.as_str())?;
+#[derive(Clone, Copy)]
+pub(crate) struct Numbers<'a>(pub &'a [usize]);
+
+impl fmt::Display for Numbers<'_> {
+    fn fmt<W: fmt::Write>(&self, f: &mut fmt::Formatter<W>) -> fmt::Result {
+        for number in self.0 {
+            write!(f, " {number}")?;
+        }
+        Ok(())
     }
-    Ok(text)
 }
 
-// The serials of the marks in a hand.
-pub(crate) fn serials(heap: Global, hand: &Vec<Mark>) -> Result<Vec<usize>, AllocError> {
-    let mut numbers = Vec::new(heap);
-    for mark in hand {
-        numbers.push(mark.serial())?;
+// The serials of the marks in a hand, each after a space. Beside `Numbers`, since there is no list of these numbers.
+#[derive(Clone, Copy)]
+pub(crate) struct Hand<'a>(pub &'a [Mark]);
+
+impl fmt::Display for Hand<'_> {
+    fn fmt<W: fmt::Write>(&self, f: &mut fmt::Formatter<W>) -> fmt::Result {
+        for mark in self.0 {
+            write!(f, " {}", mark.serial())?;
+        }
+        Ok(())
     }
-    Ok(numbers)
 }

@@ -1,6 +1,6 @@
 // Stacks of two entries, filled and emptied past their limits.
 use sheet::mark::OpenMark;
-use texts::{answer_text, number_text};
+use texts::{Answer, NumberOr};
 use trail::stack::Stack;
 
 // Pushes an entry so often, and prints each answer and how many entries there are.
@@ -11,9 +11,8 @@ fn pushes<T: Copy>(
     times: usize,
 ) -> anyhow::Result<()> {
     for _ in 0..times {
-        let text = answer_text(rt.alloc(), &stack.push(entry))?;
-        let count = stack.len();
-        println!(rt; "  push: {text}; entries {count}")?;
+        let answer = stack.push(entry);
+        println!(rt; "  push: {}; entries {}", Answer(&answer), stack.len())?;
     }
     Ok(())
 }
@@ -21,9 +20,8 @@ fn pushes<T: Copy>(
 // Pops so often, and prints each answer and how many entries there are.
 fn pops<T: Copy>(rt: &HostRuntime, stack: &mut Stack<T>, times: usize) -> anyhow::Result<()> {
     for _ in 0..times {
-        let text = answer_text(rt.alloc(), &stack.pop())?;
-        let count = stack.len();
-        println!(rt; "  pop: {text}; entries {count}")?;
+        let answer = stack.pop();
+        println!(rt; "  pop: {}; entries {}", Answer(&answer), stack.len())?;
     }
     Ok(())
 }
@@ -35,31 +33,28 @@ fn fill<T: Copy>(rt: &HostRuntime, slots: &mut [T], entry: T) -> anyhow::Result<
     pops(rt, &mut stack, 3)
 }
 
-// Pushes numbers, each one more than the one before.
+// Pushes numbers, each one more than the one before. Beside `pushes`, since it tells each number and not how many there are.
 fn push_numbers(rt: &HostRuntime, stack: &mut Stack<usize>, end: usize) -> anyhow::Result<()> {
     for number in 0..end {
-        let text = answer_text(rt.alloc(), &stack.push(number))?;
-        println!(rt; "  push {number}: {text}")?;
+        println!(rt; "  push {number}: {}", Answer(&stack.push(number)))?;
     }
     Ok(())
 }
 
 // Prints the entries from the bottom to the top.
 fn print_numbers(rt: &HostRuntime, stack: &Stack<usize>) -> anyhow::Result<()> {
-    for index in 0..stack.len() {
-        if let Some(number) = stack.get(index) {
-            println!(rt; "  entry {index}: {number}")?;
-        }
+    for (index, number) in stack.entries().iter().enumerate() {
+        println!(rt; "  entry {index}: {number}")?;
     }
     Ok(())
 }
 
-// Pops numbers so often, and prints each answer and how many entries there are.
+// Pops numbers so often, and prints each answer and how many entries there are. Beside `pops`, since it tells the number that was popped,
+// which an entry of any kind cannot.
 fn pop_numbers(rt: &HostRuntime, stack: &mut Stack<usize>, times: usize) -> anyhow::Result<()> {
     for _ in 0..times {
-        let text = number_text(rt.alloc(), &stack.pop())?;
-        let count = stack.len();
-        println!(rt; "  pop: {text}; entries {count}")?;
+        let answer = stack.pop();
+        println!(rt; "  pop: {}; entries {}", NumberOr(&answer), stack.len())?;
     }
     Ok(())
 }

@@ -3,7 +3,7 @@ ghost use Rattle.std.specs.Prelude.{◌≡◌, vec_len};
 
 use crate::calls::Call;
 use crate::play::{Room, play};
-use sheet::mark::{Mark, OpenMark};
+use sheet::mark::Mark;
 use sheet::sheet::Sheet;
 use trail::stack::Stack;
 use trail::trail::Trail;
@@ -189,47 +189,9 @@ fn spend_on(sheet: &mut Sheet, hand: &mut Vec<Mark>)
     ensures { vec_len hand.new ≡ 0 }
 {
     while let Some(mark) = hand.pop() {
+        // Its answer is let go: the mark is spent here so that none is left in hand, whatever the sheet answers.
         let _ = sheet.keep(mark);
     }
-}
-
-// Makes the sheet of a trail, and spends every mark in hand on it.
-fn spend_on_trail<'a, 'b, 'c>(
-    trail: &'a mut Trail<'b, 'c>,
-    marks: &'a mut Stack<'b, OpenMark>,
-    hand: &mut Vec<Mark>,
-)
-    ensures { vec_len hand.new ≡ 0 }
-{
-    let mut sheet = Sheet::make(trail, marks);
-    spend_on(&mut sheet, hand);
-}
-
-// The same on a record.
-fn spend_on_record<'a, 'b>(
-    masks: &'a mut [u64],
-    record: &'a mut Stack<'b, usize>,
-    slots: &'a mut [OpenMark],
-    hand: &mut Vec<Mark>,
-)
-    ensures { vec_len hand.new ≡ 0 }
-{
-    let mut trail = Trail::make(masks, record);
-    let mut marks = Stack::new(slots);
-    spend_on_trail(&mut trail, &mut marks, hand);
-}
-
-// The same on memory.
-fn spend_on_memory(
-    masks: &mut [u64],
-    entries: &mut [usize],
-    slots: &mut [OpenMark],
-    hand: &mut Vec<Mark>,
-)
-    ensures { vec_len hand.new ≡ 0 }
-{
-    let mut record = Stack::new(entries);
-    spend_on_record(masks, &mut record, slots, hand);
 }
 
 // Spends every mark that is left in hand.
@@ -238,5 +200,7 @@ pub(crate) fn spend(hand: &mut Vec<Mark>)
 {
     let mut masks = [1u64];
     let mut entries = [0usize; 63];
-    spend_on_memory(&mut masks, &mut entries, &mut [], hand);
+    let trail = Trail::make(&mut masks, Stack::new(&mut entries));
+    let mut sheet = Sheet::make(trail, Stack::new(&mut []));
+    spend_on(&mut sheet, hand);
 }

@@ -1,105 +1,81 @@
 // How the programs write what the library answers.
 #![tactic(auto)]
 
-ghost use Rattle.std.specs.Prelude.{◌≡◌, ◌++◌, IfOk, string_bytes, decimal, OnOk};
-ghost use Rattle.rows.specs.Choices.{members};
-ghost use Rattle.texts.specs.Texts.{further, listed, set_text, sets_text, refusal_text, answer_text, number_text};
+ghost use Rattle.std.specs.Prelude.{◌≡◌, Some};
+ghost use Rattle.texts.specs.Texts.{set_text, sets_text, answer_text, number_text, word_text};
 
-use rows::mask::without;
 use rows::refusal::Numbered;
 use rows::walk::Walk;
-use std::alloc::{AllocError, Global};
+use std::fmt;
 
-// Adds a number to a text, in decimal.
-fn add_number(heap: Global, text: &mut String, number: u8) -> Result<(), AllocError>
-    ensures { OnOk result (string_bytes text.new ≡ string_bytes text.old ++ decimal number) }
-{
-    let digits = format!(in heap; "{number}")?;
-    text.push_str(digits.as_str())
-}
+// The choices of a mask, written as {9,10}.
+#[derive(Clone, Copy)]
+pub struct Set(pub u64);
 
-// Adds the choices of a mask to a text, each after a comma.
-fn add_further(heap: Global, text: &mut String, mask: u64) -> Result<(), AllocError>
-    ensures { OnOk result (string_bytes text.new ≡ string_bytes text.old ++ further (members mask)) }
-{
-    for choice in Walk::over(mask) {
-        text.push_str(",")?;
-        add_number(heap, text, choice)?;
-    }
-    Ok(())
-}
+impl fmt::Display for Set {
+    ghost output = { λ s. Some (set_text s.0) };
 
-// Adds the choices of a mask to a text, with a comma between each two.
-fn add_all(heap: Global, text: &mut String, mask: u64) -> Result<(), AllocError>
-    ensures { OnOk result (string_bytes text.new ≡ string_bytes text.old ++ listed (members mask)) }
-{
-    if mask == 0 {
-        return Ok(());
-    }
-    let first = mask.trailing_zeros() as u8;
-    add_number(heap, text, first)?;
-    add_further(heap, text, without(mask, first as usize))
-}
-
-// The choices of a mask, as {9,10}.
-pub fn set_text(heap: Global, mask: u64) -> Result<String, AllocError>
-    ensures { IfOk result (λ s. string_bytes s ≡ set_text mask) }
-{
-    let mut text = String::from_str(heap, "{")?;
-    add_all(heap, &mut text, mask)?;
-    text.push_str("}")?;
-    Ok(text)
-}
-
-// The sets of some masks, each after a space.
-pub fn sets_text(heap: Global, masks: &[u64]) -> Result<String, AllocError>
-    ensures { IfOk result (λ s. string_bytes s ≡ sets_text masks.now) }
-{
-    let mut text = String::new(heap);
-    for mask in masks {
-        let set = set_text(heap, *mask)?;
-        text.push_str(" ")?;
-        text.push_str(set.as_str())?;
-    }
-    Ok(text)
-}
-
-// A refusal: its number, and the rule and the spot where it carries both.
-pub fn refusal_text<E: Numbered>(heap: Global, refusal: &E) -> Result<String, AllocError>
-    ensures { IfOk result (λ s. string_bytes s ≡ refusal_text (E.Numbered.says refusal.now)) }
-{
-    let number = refusal.number();
-    let Some(rule) = refusal.value(0) else {
-        return format!(in heap; "refused by {number}");
-    };
-    let Some(spot) = refusal.value(1) else {
-        return format!(in heap; "refused by {number}");
-    };
-    format!(in heap; "refused by {number} at rule {rule}, spot {spot}")
-}
-
-// An answer: accepted, or its refusal.
-pub fn answer_text<T, E: Numbered>(
-    heap: Global,
-    answer: &Result<T, E>,
-) -> Result<String, AllocError>
-    ensures { IfOk result (λ s. string_bytes s ≡ answer_text E.Numbered.says answer.now) }
-{
-    match answer {
-        Ok(_) => String::from_str(heap, "accepted"),
-        Err(refusal) => refusal_text(heap, refusal),
+    fn fmt<W: fmt::Write>(&self, f: &mut fmt::Formatter<W>) -> fmt::Result {
+        let mut choices = Walk::over(self.0);
+        write!(f, "{{")?;
+        if let Some(first) = choices.next() {
+            write!(f, "{first}")?;
+        }
+        for choice in choices {
+            write!(f, ",{choice}")?;
+        }
+        write!(f, "}}")
     }
 }
 
-// An answer: its number, or its refusal.
-pub fn number_text<E: Numbered>(
-    heap: Global,
-    answer: &Result<usize, E>,
-) -> Result<String, AllocError>
-    ensures { IfOk result (λ s. string_bytes s ≡ number_text E.Numbered.says answer.now) }
-{
-    match answer {
-        Ok(number) => format!(in heap; "{number}"),
-        Err(refusal) => refusal_text(heap, refusal),
+// Some masks, each written as its set after a space.
+#[derive(Clone, Copy)]
+pub struct Sets<'a>(pub &'a [u64]);
+
+impl fmt::Display for Sets<'_> {
+    ghost output = { λ s. Some (sets_text s.0.now) };
+
+    fn fmt<W: fmt::Write>(&self, f: &mut fmt::Formatter<W>) -> fmt::Result {
+        for mask in self.0 {
+            write!(f, " {}", Set(*mask))?;
+        }
+        Ok(())
     }
+}
+
+// An answer that gives nothing to write: accepted, or its refusal.
+#[derive(Drop)]
+pub struct Answer<'a, T, E>(pub &'a Result<T, E>);
+
+impl<T, E: Numbered> fmt::Display for Answer<'_, T, E> {
+    ghost output = { λ a. Some (answer_text E.Numbered.says a.0.now) };
+
+    fn fmt<W: fmt::Write>(&self, f: &mut fmt::Formatter<W>) -> fmt::Result {
+        match self.0 {
+            Ok(_) => write!(f, "accepted"),
+            Err(why) => write!(f, "{}", why.refused()),
+        }
+    }
+}
+
+// An answer that gives a number: that number, or its refusal.
+#[derive(Drop)]
+pub struct NumberOr<'a, E>(pub &'a Result<usize, E>);
+
+impl<E: Numbered> fmt::Display for NumberOr<'_, E> {
+    ghost output = { λ a. Some (number_text E.Numbered.says a.0.now) };
+
+    fn fmt<W: fmt::Write>(&self, f: &mut fmt::Formatter<W>) -> fmt::Result {
+        match self.0 {
+            Ok(number) => write!(f, "{number}"),
+            Err(why) => write!(f, "{}", why.refused()),
+        }
+    }
+}
+
+// Yes or no.
+pub fn word(answer: bool) -> &'static str
+    ensures { result.now ≡ word_text answer }
+{
+    if answer { "yes" } else { "no" }
 }

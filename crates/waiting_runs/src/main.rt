@@ -5,8 +5,8 @@ ghost use Rattle.std.specs.Prelude.{◌≡◌, ℕ, ◌+◌, ◌*◌, ◌%◌, �
 ghost use Rattle.waiting.specs.Waiting.{Empty, how_many};
 
 use rows::refusal::Numbered;
-use std::io;
-use waiting::classed::Classed;
+use std::{array, io};
+use waiting::classed::{CLASSES, Classed};
 use waiting::list::WaitingList;
 use waiting::oldest::OldestFirst;
 use waiting::refusal::ListError;
@@ -22,10 +22,7 @@ fn following(turn: u32) -> u32
 fn show_check(rt: &HostRuntime, answer: Result<(), ListError>) -> io::Result<()> {
     match answer {
         Ok(()) => println!(rt; "made"),
-        Err(why) => {
-            let number = why.number();
-            println!(rt; "{number}")
-        }
+        Err(why) => println!(rt; "{}", why.refused().number),
     }
 }
 
@@ -35,10 +32,7 @@ fn show_put<L: WaitingList>(rt: &HostRuntime, list: &mut L, number: usize) -> io
 {
     match list.put(number) {
         Ok(()) => Ok(()),
-        Err(why) => {
-            let number = why.number();
-            print!(rt; " !{number}")
-        }
+        Err(why) => print!(rt; " !{}", why.refused().number),
     }
 }
 
@@ -56,6 +50,7 @@ fn show_take<L: WaitingList>(rt: &HostRuntime, list: &mut L) -> io::Result<()>
 fn drain<L: WaitingList>(list: &mut L) -> usize
     ensures { (L.room list.new ≡ L.room list.old) × ((Empty (L.waits list.new)) × (result ≡ how_many (L.waits list.old) (L.room list.old))) }
 {
+    // Counted here, since a closure that takes from the list would tell a proof nothing of it.
     let mut count = 0;
     while let Some(_number) = list.take() {
         count += 1;
@@ -63,27 +58,30 @@ fn drain<L: WaitingList>(list: &mut L) -> usize
     count
 }
 
-// A row of calls: numbers below a span are put, and others taken; where the row comes to a multiple of a period, the list is cleared.
-// In the end all numbers that still wait are taken and counted.
-fn run<L: WaitingList>(
-    rt: &HostRuntime,
-    list: &mut L,
+// How many calls a row has, below which span the numbers lie that are put, and at which multiples the list is cleared.
+#[derive(Clone, Copy)]
+struct Calls {
     steps: u32,
     span: u32,
     period: u32,
-) -> io::Result<()>
-    requires { (0 < span) × (0 < period) }
+    ghost spans: { 0 < span },
+    ghost recurs: { 0 < period },
+}
+
+// A row of calls: numbers below a span are put, and others taken; where the row comes to a multiple of a period, the list is cleared.
+// In the end all numbers that still wait are taken and counted.
+fn run<L: WaitingList>(rt: &HostRuntime, list: &mut L, calls: Calls) -> io::Result<()>
     ensures { L.room list.new ≡ L.room list.old }
 {
     let capacity = list.capacity();
     print!(rt; "{capacity}:")?;
     let mut turn = 1;
-    for _ in 0..steps {
+    for _ in 0..calls.steps {
         turn = following(turn);
-        if turn % period == 0 {
+        if turn % calls.period == 0 {
             list.clear();
         } else if turn % 5 < 3 {
-            show_put(rt, list, (turn / 5 % span) as usize)?;
+            show_put(rt, list, (turn / 5 % calls.span) as usize)?;
         } else {
             show_take(rt, list)?;
         }
@@ -96,11 +94,7 @@ fn run<L: WaitingList>(
 fn classes_in_turn() -> [u8; 512]
     ensures { (k : ℕ) → k < 512 → slice_index result k ≡ k % 7 + 1 }
 {
-    let mut classes = [1u8; 512];
-    for number in 0..512 {
-        classes[number] = (number % 7) as u8 + 1;
-    }
-    classes
+    array::from_fn(|number| (number % CLASSES) as u8 + 1)
 }
 
 // The checks at their bounds.
@@ -119,44 +113,108 @@ fn show_checks(rt: &HostRuntime) -> io::Result<()> {
 }
 
 // A row of calls of the list of these classes.
-fn run_classed(
-    rt: &HostRuntime,
-    classes: &[u8],
-    steps: u32,
-    span: u32,
-    period: u32,
-) -> io::Result<()>
-    requires { (0 < span) × (0 < period) }
-{
+fn run_classed(rt: &HostRuntime, classes: &[u8], calls: Calls) -> io::Result<()> {
     let mut list = Classed::make(classes);
-    run(rt, &mut list, steps, span, period)
+    run(rt, &mut list, calls)
 }
 
 // A row of calls of the list that takes the oldest first.
-fn run_oldest(
-    rt: &HostRuntime,
-    capacity: usize,
-    steps: u32,
-    span: u32,
-    period: u32,
-) -> io::Result<()>
-    requires { (0 < span) × (0 < period) }
-{
+fn run_oldest(rt: &HostRuntime, capacity: usize, calls: Calls) -> io::Result<()> {
     let mut list = OldestFirst::make(capacity);
-    run(rt, &mut list, steps, span, period)
+    run(rt, &mut list, calls)
 }
 
 fn main(rt: HostRuntime) -> io::Result<()> {
     show_checks(&rt)?;
-    run_oldest(&rt, 1, 60, 3, 7)?;
-    run_oldest(&rt, 0, 20, 3, 7)?;
-    run_oldest(&rt, 513, 20, 3, 7)?;
-    run_oldest(&rt, 5, 400, 7, 61)?;
-    run_oldest(&rt, 512, 4000, 514, 65537)?;
-    run_classed(&rt, &[1], 60, 3, 7)?;
-    run_classed(&rt, &[8], 20, 3, 7)?;
-    run_classed(&rt, &[], 20, 3, 7)?;
-    run_classed(&rt, &[7, 1, 3, 1, 7, 2, 5], 400, 9, 61)?;
+    run_oldest(
+        &rt,
+        1,
+        Calls {
+            steps: 60,
+            span: 3,
+            period: 7,
+        },
+    )?;
+    run_oldest(
+        &rt,
+        0,
+        Calls {
+            steps: 20,
+            span: 3,
+            period: 7,
+        },
+    )?;
+    run_oldest(
+        &rt,
+        513,
+        Calls {
+            steps: 20,
+            span: 3,
+            period: 7,
+        },
+    )?;
+    run_oldest(
+        &rt,
+        5,
+        Calls {
+            steps: 400,
+            span: 7,
+            period: 61,
+        },
+    )?;
+    run_oldest(
+        &rt,
+        512,
+        Calls {
+            steps: 4000,
+            span: 514,
+            period: 65537,
+        },
+    )?;
+    run_classed(
+        &rt,
+        &[1],
+        Calls {
+            steps: 60,
+            span: 3,
+            period: 7,
+        },
+    )?;
+    run_classed(
+        &rt,
+        &[8],
+        Calls {
+            steps: 20,
+            span: 3,
+            period: 7,
+        },
+    )?;
+    run_classed(
+        &rt,
+        &[],
+        Calls {
+            steps: 20,
+            span: 3,
+            period: 7,
+        },
+    )?;
+    run_classed(
+        &rt,
+        &[7, 1, 3, 1, 7, 2, 5],
+        Calls {
+            steps: 400,
+            span: 9,
+            period: 61,
+        },
+    )?;
     let classes = classes_in_turn();
-    run_classed(&rt, &classes, 4000, 514, 65537)
+    run_classed(
+        &rt,
+        &classes,
+        Calls {
+            steps: 4000,
+            span: 514,
+            period: 65537,
+        },
+    )
 }
