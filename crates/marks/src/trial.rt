@@ -44,8 +44,8 @@ impl fmt::Display for Stopped {
     }
 }
 
-// Holds a choice in a row and settles; answers how many choices the settle struck. Sheet, bank and list are handed on one by one, as the
-// library's call takes them.
+// Holds a choice in a row and settles; answers how many choices the settle struck. Sheet, bank and list, row and choice are handed on one by
+// one, as the library's calls take them. Each function says that it leads on from the state it met, as each makes calls of its own.
 fn hold_and_settle<B: Bank, L: WaitingList>(
     sheet: &mut Sheet,
     bank: &B,

@@ -40,7 +40,8 @@ impl<B: Bank, L: WaitingList> Settling<'_, '_, '_, '_, B, L> {
         (0..arity).any(|place| self.bank.row_at(rule, place) == Ok(row))
     }
 
-    // Lets every rule but one wait that names a row.
+    // Lets every rule but one wait that names a row. What always stays is said here and in each method below by one clause, since through a
+    // `&mut` all of it might change.
     fn wake(&mut self, but: usize, row: usize)
         ensures keeps { Keeps self.old self.new }
         ensures trail { self.new.trail.now ≡ self.old.trail.now }

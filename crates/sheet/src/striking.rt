@@ -1,4 +1,4 @@
-// Strike and hold.
+// Strike and hold. What a refused call leaves is said by each call of a sheet, since it is what each promises.
 ghost use Rattle.std.specs.Prelude.{◌≡◌, ◌<◌, length, bit_and};
 ghost use Rattle.rows.specs.Choices.{Without};
 ghost use Rattle.rows.specs.Refusals.{Answer};

@@ -31,7 +31,7 @@ impl fmt::Display for Call {
     }
 }
 
-// The mark at a place of the hand.
+// The mark at a place of the hand. Sheet and hand are handed on apart, since the hand outlives every sheet.
 fn picked(hand: &mut Vec<Mark>, place: usize) -> anyhow::Result<Mark> {
     // Tested first, since `remove` takes the mark out, which `get` cannot.
     if place >= hand.len() {

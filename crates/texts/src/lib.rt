@@ -73,7 +73,7 @@ impl<E: Numbered> fmt::Display for NumberOr<'_, E> {
     }
 }
 
-// Yes or no.
+// Yes or no. A function and no `Display`, since a bool has one of its own.
 pub fn word(answer: bool) -> &'static str
     ensures { result.now ≡ word_text answer }
 {

@@ -48,7 +48,7 @@ impl<'a> Trail<'a> {
         }
     }
 
-    // Records a struck choice. The record has room for it.
+    // Records a struck choice. The record has room for it. That the rows stay is said by each call that leaves them, since no type can.
     fn note(&mut self, stroke: usize)
         requires { height_of self.old + 1 + StandingOn (rows_of self.old) ≤ length (rows_of self.old) * choices }
         ensures rows { rows_of self.new ≡ rows_of self.old }

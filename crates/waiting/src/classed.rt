@@ -72,6 +72,7 @@ impl<'a> Classed<'a> {
     }
 }
 
+// That the classes stay is said by each call that may change the list, since no type can.
 impl WaitingList for Classed<'_> {
     ghost room = { λ l. length l.classes.now };
 

@@ -26,7 +26,7 @@ fn show_check(rt: &HostRuntime, answer: Result<(), ListError>) -> io::Result<()>
     }
 }
 
-// Puts a number, and prints why it is refused, if it is.
+// Puts a number, and prints why it is refused, if it is. That the capacity stays is said by each function that is lent a list, for the next.
 fn show_put<L: WaitingList>(rt: &HostRuntime, list: &mut L, number: usize) -> io::Result<()>
     ensures { L.room list.new ≡ L.room list.old }
 {
