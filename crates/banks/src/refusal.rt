@@ -1,5 +1,6 @@
 // Why a bank refuses.
 ghost use Rattle.std.specs.Prelude.{◌≡◌, [], ◌∷◌};
+ghost use Rattle.std.specs.List.{slice_get};
 ghost use Rattle.rows.specs.Refusals.{Refusal};
 ghost use Rattle.banks.specs.Calls.{call_says};
 ghost use Rattle.banks.specs.Faults.{bank_says};
@@ -44,6 +45,13 @@ pub trait Fault {
     // Where it lies: an index in a pool, or 0.
     fn spot(&self) -> usize
         ensures { (says self.now).values ≡ result ∷ [] };
+
+    // The value at an index: the spot is the only one.
+    fn value(&self, index: usize) -> Option<usize>
+        ensures { result ≡ slice_get (says self.now).values index }
+    {
+        [self.spot()].get(index).copied()
+    }
 }
 
 // Why a bank of one kind cannot be made. The fault of a rule is of the kind's own type.

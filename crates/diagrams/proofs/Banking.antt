@@ -21,7 +21,7 @@ use Rattle.diagrams.specs.declared.diagram.Arc.{Arc}
 use Rattle.diagrams.specs.declared.diagram.Diagram.{Diagram}
 use Rattle.diagrams.specs.Checks.{counts_fit, first_failing, layer_reasons, fault, refusal}
 use Rattle.diagrams.specs.Diagrams.{part, rule, meaning}
-use Rattle.diagrams.specs.Layers.{max_nodes, node_fits, arc_fits, Layered}
+use Rattle.diagrams.specs.Layers.{max_arcs, max_nodes, node_fits, arc_fits, Layered}
 use Rattle.diagrams.specs.Owed.{Fine, fine_from, IsRule, Found}
 use Rattle.diagrams.proofs.Failing.{first_of_layers, or_none, all_pass}
 
@@ -29,7 +29,9 @@ use Rattle.diagrams.proofs.Failing.{first_of_layers, or_none, all_pass}
 pub record Counted (n m : ℕ) (d : Diagram) : Type 0 where
   pub two : 2 ≤ d.nodes.count
   pub nodes_few : d.nodes.count ≤ max_nodes
+  pub arcs_few : d.arcs.count ≤ max_arcs
   pub nodes_in : d.nodes.start + d.nodes.count ≤ n
+  pub arcs_in : d.arcs.start + d.arcs.count ≤ m
 
 pub counted_from : (n m : ℕ) (d : Diagram) → counts_fit n m d ≡ true → Counted n m d
 counted_from n m d e = search (rules, tests)
@@ -75,7 +77,7 @@ module _ (w : ℕ) (places : List ℕ) (pool : List Arc) (d : Diagram) (fine : F
 
 -- the diagram at a rule number, if the bank has it
 module _ (w : ℕ) (places : List ℕ) (pool : List Arc) (ds : List Diagram) (sound : is_some (refusal w places pool ds) ≡ false) (r : ℕ) where
-  is_rule : (d : Diagram) → slice_get ds r ≡ Some d → IsRule w places pool ds r d
+  pub is_rule : (d : Diagram) → slice_get ds r ≡ Some d → IsRule w places pool ds r d
   is_rule d e = record {
     there = omega (arith, within, length-map ds (meaning pool));
     means = means;

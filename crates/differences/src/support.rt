@@ -7,7 +7,7 @@ ghost use Rattle.differences.specs.Partners.{Finds};
 
 use crate::difference::{Difference, Relation};
 use crate::partner::{has, has_another, has_at_least, has_at_most, remainders};
-use rows::walk::keep;
+use rows::walk::keep_by;
 
 // The choices x of the first row and the choices y of the second that relate to some choice of the other, by place.
 pub(crate) fn both_sides(difference: Difference, xs: u64, ys: u64) -> [u64; 2]
@@ -18,27 +18,27 @@ pub(crate) fn both_sides(difference: Difference, xs: u64, ys: u64) -> [u64; 2]
     let offset = i64::from(difference.offset);
     match difference.relation {
         Relation::Equal => [
-            keep(xs, |x| has(ys, i64::from(x) + offset)),
-            keep(ys, |y| has(xs, i64::from(y) - offset)),
+            keep_by(xs, |x| has(ys, i64::from(x) + offset)),
+            keep_by(ys, |y| has(xs, i64::from(y) - offset)),
         ],
         Relation::Unequal => [
-            keep(xs, |x| has_another(ys, i64::from(x) + offset)),
-            keep(ys, |y| has_another(xs, i64::from(y) - offset)),
+            keep_by(xs, |x| has_another(ys, i64::from(x) + offset)),
+            keep_by(ys, |y| has_another(xs, i64::from(y) - offset)),
         ],
         Relation::AtMost => [
-            keep(xs, |x| has_at_least(ys, i64::from(x) + offset)),
-            keep(ys, |y| has_at_most(xs, i64::from(y) - offset)),
+            keep_by(xs, |x| has_at_least(ys, i64::from(x) + offset)),
+            keep_by(ys, |y| has_at_most(xs, i64::from(y) - offset)),
         ],
         Relation::Congruent { modulus } => {
             let of_xs = remainders(xs, modulus);
             let of_ys = remainders(ys, modulus);
             let modulus = i64::from(modulus);
             [
-                keep(
+                keep_by(
                     xs,
                     |x| has(of_ys, (i64::from(x) + offset).rem_euclid(modulus)),
                 ),
-                keep(
+                keep_by(
                     ys,
                     |y| has(of_xs, (i64::from(y) - offset).rem_euclid(modulus)),
                 ),

@@ -77,10 +77,15 @@ fn print_nested(
     hour: usize,
     other: usize,
 ) -> anyhow::Result<()> {
-    print!(rt; "Order {order} without hour {hour}, and without {other} for a look: ")?;
     match strike_and_look(sheet, order, hour, other) {
-        Ok(mask) => println!(rt; "hours {}", Set(mask))?,
-        Err(why) => println!(rt; "{}", why.refused())?,
+        Ok(mask) => println!(rt;
+            "Order {order} without hour {hour}, and without {other} for a look: hours {}",
+            Set(mask)
+        )?,
+        Err(why) => println!(rt;
+            "Order {order} without hour {hour}, and without {other} for a look: {}",
+            why.refused()
+        )?,
     }
     print_sheet(rt, sheet)
 }

@@ -27,6 +27,7 @@ pub fn only(choice: usize) -> u64
 }
 
 // The mask with one choice more; no number from 64 on is one.
+#[tactic(auto, using(crate::proofs::Masks::stands_or))]
 pub fn with(mask: u64, choice: usize) -> u64
     ensures { With choice mask result }
 {

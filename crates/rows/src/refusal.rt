@@ -1,5 +1,6 @@
 // Refusals: each reason has a number, and some say where in a rule they lie.
 ghost use Rattle.std.specs.Prelude.{◌≡◌, Some, None};
+ghost use Rattle.std.specs.List.{slice_get};
 ghost use Rattle.rows.specs.Printing.{read, refusal_text};
 ghost use Rattle.rows.specs.Refusals.{Refusal};
 ghost use Rattle.rows.specs.RowRefusals.{row_says};
@@ -52,6 +53,21 @@ pub trait Numbered {
     // The reason as it is read.
     fn refused(&self) -> Refused
         ensures { read result ≡ says self.now };
+
+    // The number of the reason.
+    fn number(&self) -> u32
+        ensures { result ≡ (says self.now).number }
+    {
+        self.refused().number
+    }
+
+    // The value at an index, or none past the last.
+    fn value(&self, index: usize) -> Option<usize>
+        ensures { result ≡ slice_get (says self.now).values index }
+    {
+        let At { rule, spot } = self.refused().at?;
+        [rule, spot].get(index).copied()
+    }
 }
 
 // Why a row cannot be made.

@@ -1,6 +1,6 @@
 // A walk over the choices of a mask, and what is done once at each of them.
-ghost use Rattle.std.specs.Prelude.{◌≡◌};
-ghost use Rattle.rows.specs.Choices.{Askable, KeptBy, Walks};
+ghost use Rattle.std.specs.Prelude.{◌≡◌, ℕ, Decides};
+ghost use Rattle.rows.specs.Choices.{Askable, Kept, KeptBy, Walks};
 ghost use Rattle.std.specs.Iterator.{at_most};
 
 use crate::mask;
@@ -38,9 +38,25 @@ impl Iterator for Walk {
     }
 }
 
-// The choices of a mask that pass a test. The test is asked once at each of them, so it has to be one that may be asked there; one that
-// may be asked at any choice always is.
-pub fn keep<F: Fn(u8) -> bool>(mask: u64, test: F) -> u64
+// A test of choices.
+pub trait Test {
+    // Which choices pass.
+    ghost passes: { Self → ℕ → Type 0 };
+
+    fn passes_at(&self, choice: u8) -> bool
+        ensures { Decides result (passes self.now choice) };
+}
+
+// The choices of a mask that pass a test. It asks nothing of its caller, since a test answers at every choice, and exactly.
+pub fn keep<T: Test>(mask: u64, test: &T) -> u64
+    ensures { Kept (T.passes test.now) mask result }
+{
+    keep_by(mask, |choice| test.passes_at(choice))
+}
+
+// The choices of a mask that a closure keeps. The closure is asked once at each of them, so it has to be one that may be asked there; one
+// that may be asked at any choice always is.
+pub fn keep_by<F: Fn(u8) -> bool>(mask: u64, test: F) -> u64
     requires { Askable (F.pre test) mask }
     ensures { KeptBy (F.post test) mask result }
 {

@@ -3,6 +3,7 @@ pub mod Asking
 pub mod Chaining
 pub mod Cutting
 pub mod Ending
+pub mod Fitting
 pub mod Looping
 pub mod Recording
 pub mod Revising

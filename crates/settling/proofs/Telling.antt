@@ -53,7 +53,7 @@ module _ (Rs : List Rule) (s t u : Sheet) (x : Largest Rs s t) (y : Largest Rs s
   largest_standing = omega (arith, standing_under t u (y.above t x.candidate), standing_under u t (x.above u y.candidate))
 
 -- what can be told of the same rows and rules is alike
-tells_alike : (Rs : List Rule) (o : Outcome) (s t : Sheet) (a b : List ℕ) → Tells Rs o s t a b → Alike Rs s t o
+pub tells_alike : (Rs : List Rule) (o : Outcome) (s t : Sheet) (a b : List ℕ) → Tells Rs o s t a b → Alike Rs s t o
 tells_alike Rs (Settled n) s t a b x (Settled m) u c d y =
     (omega (arith, x.count, y.count, largest_standing Rs s t u x.rows y.rows), largest_stands Rs s t u x.rows y.rows)
 tells_alike Rs (Settled n) s t a b x (Wiped k) u c d y = y.0.none t x.rows.candidate
@@ -61,7 +61,7 @@ tells_alike Rs (Wiped j) s t a b x (Settled m) u c d y = x.0.none u y.rows.candi
 tells_alike Rs (Wiped j) s t a b x (Wiped k) u c d y = tt
 
 -- and rows that have a supported sheet under them settle
-tells_largest : (Rs : List Rule) (o : Outcome) (s t : Sheet) (a b : List ℕ) → Tells Rs o s t a b → SettlesOn Rs s t o
+pub tells_largest : (Rs : List Rule) (o : Outcome) (s t : Sheet) (a b : List ℕ) → Tells Rs o s t a b → SettlesOn Rs s t o
 tells_largest Rs (Settled n) s t a b x c cand = ((n, refl), x.rows)
 tells_largest Rs (Wiped k) s t a b x c cand = absurd (x.0.none c cand)
 

@@ -16,25 +16,23 @@ use waiting::list::WaitingList;
 // The number of a rule that has no live tuple.
 struct DeadRule(usize);
 
-// What settling works on: the rows of a trail, the rules of a bank, and a list for those that wait. The rules name rows that are there,
-// and every one of them can wait. The lifetimes are those of the three references, and of the rows and the record behind the first: as in
-// a call, each has its own.
+// What settling works on: the rows of a trail, the rules of a bank, and a list for those that wait. The lifetimes are those of the three
+// references, and of the rows and the record behind the first: as in a call, each has its own. That the rules fit is what six methods
+// require, by one clause, and no ghost field: the borrow checker covers no struct with one over two lifetimes behind a reference.
 #[derive(Drop)]
-struct Settling<'t, 'r, 'k, 'l, B: Bank, L: WaitingList> {
-    trail: &'t mut Trail<'r>,
+struct Settling<'t, 'r, 's, 'k, 'l, B: Bank, L: WaitingList> {
+    trail: &'t mut Trail<'r, 's>,
     bank: &'k B,
     list: &'l mut L,
-    ghost capacity: { length (B.rules bank.now) ≤ L.room list.now },
-    ghost width: { B.wide bank.now ≤ length (rows_of trail.now) },
 }
 
-impl<B: Bank, L: WaitingList> Settling<'_, '_, '_, '_, B, L> {
-    ghost use Rattle.settling.specs.States.{state_of, rules_of, Keeps};
+impl<B: Bank, L: WaitingList> Settling<'_, '_, '_, '_, '_, B, L> {
+    ghost use Rattle.settling.specs.States.{state_of, rules_of, Fits, Keeps};
     ghost use Rattle.settling.specs.Loop.{Filled, Woken, Brought, ReviseAnswer, LoopAnswer, GivesUp, Ends};
 
     // Whether a rule names a row.
     fn names(&self, rule: usize, row: usize) -> bool
-        ensures { result ≡ among row (rule_at (rules_of self.now) rule).names }
+        ensures { result ≡ among row (rule_at (rules_of B.rules self.now) rule).names }
     {
         let arity = self.bank.arity(rule).unwrap_or(0);
         (0..arity).any(|place| self.bank.row_at(rule, place) == Ok(row))
@@ -43,9 +41,10 @@ impl<B: Bank, L: WaitingList> Settling<'_, '_, '_, '_, B, L> {
     // Lets every rule but one wait that names a row. What always stays is said here and in each method below by one clause, since through a
     // `&mut` all of it might change.
     fn wake(&mut self, but: usize, row: usize)
-        ensures keeps { Keeps self.old self.new }
+        requires fits { Fits B.wide B.rules L.room self.old }
+        ensures keeps { Keeps L.room self.old self.new }
         ensures trail { self.new.trail.now ≡ self.old.trail.now }
-        ensures woken { Woken (rules_of self.old) but row (state_of self.old).waits (state_of self.new).waits }
+        ensures woken { Woken (rules_of B.rules self.old) but row (state_of L.waits self.old).waits (state_of L.waits self.new).waits }
     {
         for rule in 0..self.bank.rule_count() {
             if rule != but && self.names(rule, row) {
@@ -56,9 +55,10 @@ impl<B: Bank, L: WaitingList> Settling<'_, '_, '_, '_, B, L> {
 
     // Lets exactly the rules wait.
     fn fill(&mut self)
-        ensures keeps { Keeps self.old self.new }
+        requires fits { Fits B.wide B.rules L.room self.old }
+        ensures keeps { Keeps L.room self.old self.new }
         ensures trail { self.new.trail.now ≡ self.old.trail.now }
-        ensures filled { Filled (length (rules_of self.old)) (state_of self.new).waits }
+        ensures filled { Filled (length (rules_of B.rules self.old)) (state_of L.waits self.new).waits }
     {
         self.list.clear();
         for rule in 0..self.bank.rule_count() {
@@ -69,10 +69,11 @@ impl<B: Bank, L: WaitingList> Settling<'_, '_, '_, '_, B, L> {
     // Brings a row to a mask of which some choice stands in it: narrows it, if it differs, and lets the rules wait that name it, but the
     // one that is revised.
     fn bring(&mut self, revised: usize, row: usize, mask: u64)
-        requires inside { row < length (state_of self.old).rows }
-        requires some { 0 < bit_and (row_of (state_of self.old).rows row) mask }
-        ensures keeps { Keeps self.old self.new }
-        ensures brought { Brought (rules_of self.old) revised row mask (state_of self.old) (state_of self.new) }
+        requires fits { Fits B.wide B.rules L.room self.old }
+        requires inside { row < length (state_of L.waits self.old).rows }
+        requires some { 0 < bit_and (row_of (state_of L.waits self.old).rows row) mask }
+        ensures keeps { Keeps L.room self.old self.new }
+        ensures brought { Brought (rules_of B.rules self.old) revised row mask (state_of L.waits self.old) (state_of L.waits self.new) }
     {
         if self.trail.mask(row) == mask {
             return;
@@ -84,9 +85,10 @@ impl<B: Bank, L: WaitingList> Settling<'_, '_, '_, '_, B, L> {
     // Revises a rule: brings each row that it names to the choices with support there. Refuses a rule that has no live tuple; refused,
     // it changes nothing.
     fn revise(&mut self, rule: usize) -> Result<(), DeadRule>
-        requires { rule < length (rules_of self.old) }
-        ensures keeps { Keeps self.old self.new }
-        ensures answer { ReviseAnswer (rules_of self.old) rule (state_of self.old) (state_of self.new) result }
+        requires fits { Fits B.wide B.rules L.room self.old }
+        requires inside { rule < length (rules_of B.rules self.old) }
+        ensures keeps { Keeps L.room self.old self.new }
+        ensures answer { ReviseAnswer (rules_of B.rules self.old) rule (state_of L.waits self.old) (state_of L.waits self.new) result }
     {
         let mut masks = [0u64; MAX_ARITY];
         self.trail.support(self.bank, rule, &mut masks).unwrap();
@@ -103,9 +105,10 @@ impl<B: Bank, L: WaitingList> Settling<'_, '_, '_, '_, B, L> {
 
     // Revises the rules that wait, and those that come to wait, until none does, or one has no live tuple.
     fn revise_waiting(&mut self) -> Result<(), DeadRule>
-        requires { Filled (length (rules_of self.old)) (state_of self.old).waits }
-        ensures keeps { Keeps self.old self.new }
-        ensures answer { LoopAnswer (rules_of self.old) (state_of self.old) (state_of self.new) result }
+        requires fits { Fits B.wide B.rules L.room self.old }
+        requires filled { Filled (length (rules_of B.rules self.old)) (state_of L.waits self.old).waits }
+        ensures keeps { Keeps L.room self.old self.new }
+        ensures answer { LoopAnswer (rules_of B.rules self.old) (state_of L.waits self.old) (state_of L.waits self.new) result }
     {
         while let Some(rule) = self.list.take() {
             self.revise(rule)?;
@@ -115,8 +118,8 @@ impl<B: Bank, L: WaitingList> Settling<'_, '_, '_, '_, B, L> {
 
     // Gives up: puts back every struck choice from an index of the record on, and lets no rule wait.
     fn give_up(&mut self, height: usize)
-        ensures keeps { Keeps self.old self.new }
-        ensures undone { GivesUp height (state_of self.old) (state_of self.new) }
+        ensures keeps { Keeps L.room self.old self.new }
+        ensures undone { GivesUp height (state_of L.waits self.old) (state_of L.waits self.new) }
     {
         self.trail.undo_to(height);
         self.list.clear();
@@ -124,8 +127,9 @@ impl<B: Bank, L: WaitingList> Settling<'_, '_, '_, '_, B, L> {
 
     // Settles the rows: revises every rule until each supports them. On a wipe-out, puts back all that was struck.
     fn settle(&mut self) -> Outcome
-        ensures keeps { Keeps self.old self.new }
-        ensures ends { Ends (rules_of self.old) (state_of self.old) (state_of self.new) result }
+        requires fits { Fits B.wide B.rules L.room self.old }
+        ensures keeps { Keeps L.room self.old self.new }
+        ensures ends { Ends (rules_of B.rules self.old) (state_of L.waits self.old) (state_of L.waits self.new) result }
     {
         let height = self.trail.height();
         let before = self.trail.standing();

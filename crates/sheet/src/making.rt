@@ -1,4 +1,4 @@
-// The making of a sheet.
+// The making of a sheet, and its end.
 ghost use Rattle.std.specs.Prelude.{◌≡◌, [], length};
 ghost use Rattle.trail.specs.Readings.{rows_of, memory_of};
 ghost use Rattle.histories.specs.Laws.{Law};
@@ -10,10 +10,10 @@ use crate::sheet::Sheet;
 use trail::stack::Stack;
 use trail::trail::Trail;
 
-impl<'a> Sheet<'a> {
+impl<'r, 's> Sheet<'r, 's> {
     // The sheet of these rows, with an empty record and no mark open or given. A sheet of no rows has no mark memory. The entries of both
     // stacks' memory stay as they are.
-    pub fn make(mut trail: Trail<'a>, mut marks: Stack<'a, OpenMark>) -> Sheet<'a>
+    pub fn make(mut trail: Trail<'r, 's>, mut marks: Stack<'r, OpenMark>) -> Sheet<'r, 's>
         ensures made { state_of result ≡ new_state (rows_of trail.entry) (length marks.entry.slots.now) }
         ensures law { Law (state_of result) [] (state_of result) }
         ensures record { memory_of result.trail ≡ memory_of trail.entry }
@@ -32,5 +32,19 @@ impl<'a> Sheet<'a> {
             given: 0,
             room,
         }
+    }
+
+    // The trail with its rows and its record, and the stack of the open marks. The sheet ends.
+    pub fn into_parts(self) -> (Trail<'r, 's>, Stack<'r, OpenMark>)
+        ensures trail { result.0 ≡ self.entry.trail }
+        ensures marks { result.1 ≡ self.entry.marks }
+    {
+        let Sheet {
+            trail,
+            marks,
+            given: _,
+            room: _,
+        } = self;
+        (trail, marks)
     }
 }

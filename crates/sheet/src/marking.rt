@@ -15,7 +15,7 @@ use crate::sheet::Sheet;
 // The most marks that a sheet gives.
 pub const MAX_MARKS: usize = 1_000_000;
 
-impl<'a> Sheet<'a> {
+impl<'r, 's> Sheet<'r, 's> {
     // Refuses where as many marks are open as can be, and then where all were given.
     fn may_mark(&self) -> Result<(), SheetError>
         ensures { Answer sheet_says (why marks_it (state_of self.now)) (Unit {0}) (λ _. Unit {0}) result }

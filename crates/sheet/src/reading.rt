@@ -5,9 +5,9 @@ ghost use Rattle.sheet.specs.Memory.{state_of};
 use crate::sheet::Sheet;
 use trail::trail::Trail;
 
-impl<'a> Sheet<'a> {
+impl<'r, 's> Sheet<'r, 's> {
     // The rows and the record.
-    pub fn trail(&self) -> &Trail<'a>
+    pub fn trail(&self) -> &Trail<'r, 's>
         ensures { result.now ≡ self.now.trail }
     {
         &self.trail

@@ -14,7 +14,7 @@ use settling::propagate::propagate;
 use settling::refusal::SettleError;
 use waiting::list::WaitingList;
 
-impl<'a> Sheet<'a> {
+impl<'r, 's> Sheet<'r, 's> {
     // Settles the sheet by a rule bank, with a list for the rules that wait, which is empty afterwards.
     pub fn settle<B: Bank, L: WaitingList>(
         &mut self,

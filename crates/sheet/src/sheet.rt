@@ -9,11 +9,12 @@ use trail::stack::Stack;
 use trail::trail::Trail;
 
 // A sheet: rows with the record of what was struck from them, the open marks, how many marks were given and how many can be open. No open
-// mark was given at a height that the record does not reach, and a later one at no lesser height.
+// mark was given at a height that the record does not reach, and a later one at no lesser height. The rows and the memory of the marks are lent
+// for as long, the record's memory for as long as it is.
 #[derive(Drop)]
-pub struct Sheet<'a> {
-    pub(crate) trail: Trail<'a>,
-    pub(crate) marks: Stack<'a, OpenMark>,
+pub struct Sheet<'r, 's> {
+    pub(crate) trail: Trail<'r, 's>,
+    pub(crate) marks: Stack<'r, OpenMark>,
     pub(crate) given: usize,
     pub(crate) room: usize,
     ghost within: { room ≤ length marks.slots.now },

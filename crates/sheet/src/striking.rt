@@ -13,7 +13,7 @@ use crate::sheet::Sheet;
 use rows::mask;
 use rows::mask::CHOICES;
 
-impl<'a> Sheet<'a> {
+impl<'r, 's> Sheet<'r, 's> {
     // Refuses a row that is not on the sheet, and then a choice that does not stand in it.
     fn may_hold(&self, row: usize, choice: usize) -> Result<(), SheetError>
         ensures { Answer sheet_says (why (holds row choice) (state_of self.now)) (Unit {0}) (λ _. Unit {0}) result }

@@ -1,6 +1,7 @@
 -- The choices that match a byte of a table, and the bytes of a part of others.
-use Rattle.std.proofs.Common.{◌≡◌, ℕ, ◌^◌, ◌<◌, true, eqb, List, ◌++◌, length, take, drop, sym, refl, ◌∙◌, ⊎_elim, arith}
+use Rattle.std.proofs.Common.{◌≡◌, ℕ, ◌*◌, ◌%◌, ◌^◌, ◌<◌, true, eqb, List, ◌++◌, length, take, drop, sym, refl, ◌∙◌, ⊎_elim, arith}
 use lib.Bits.{bit_and}
+use Rattle.std.proofs.lemmas.Nat.{one_shl}
 use Rattle.std.proofs.lemmas.List.{take_at, drop_at}
 use Rattle.std.proofs.lemmas.List.Elements.{All-same, All-take, All-drop}
 use Rattle.std.proofs.lemmas.Bool.{and_parts, and_from, or_cases, or_right, eqb-true, eq-eqb}
@@ -38,3 +39,7 @@ one_choice b m h v = (there, back)
     back k =
         stands_and m (2 ^ b) v
         ∙ and_from (stands m v) (stands (2 ^ b) v) k.0 (stands_bit b v ∙ eq-eqb v b (sym (same k.1)))
+
+-- the same choice, as the shift of a word gives it
+pub one_shifted : (b m : ℕ) → b < choices → Kept (λ v. takes b v ≡ true) m (bit_and m (1 * 2 ^ b % 18446744073709551616))
+one_shifted b m h = simp (one_shl b 64 h) (one_choice b m h)

@@ -18,6 +18,7 @@ pub(crate) struct Line<'a> {
 
 // The choices of a mask that match a byte. One comparison tells a choice from the star, which is faster than a test of each, so no byte may
 // come that is neither.
+#[tactic(auto, using(crate::proofs::Bytes::one_shifted))]
 fn matching(mask: u64, byte: u8) -> u64
     requires { table_byte byte ≡ true }
     ensures { Kept (λ v. takes byte v ≡ true) mask result }

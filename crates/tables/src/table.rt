@@ -50,6 +50,7 @@ impl Table<'_> {
     }
 
     // Refuses a table that a bank of a width may not hold over a pool.
+    #[tactic(auto, using(crate::proofs::Checking::bad_found, crate::proofs::Checking::none_bad))]
     pub(crate) fn check(&self, width: usize, pool: &[u8]) -> Result<(), TableFault>
         ensures { Answer fault_says (fault width pool.now self.now) (Unit {0}) (λ _. Unit {0}) result }
     {

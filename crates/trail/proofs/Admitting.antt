@@ -1,10 +1,10 @@
 -- The making of a trail: no mask is 0, and the record has room.
-use Rattle.std.proofs.Common.{◌≡◌, ℕ, zero, suc, ◌+◌, ◌*◌, ◌^◌, ◌<◌, ◌≤◌, false, not, eqb, ltb, leb, List, [], ◌∷◌, length, take, Some, None, sym, refl, ap, ◌∙◌, subst, arith}
+use Rattle.std.proofs.Common.{◌≡◌, ℕ, zero, suc, ◌+◌, ◌*◌, ◌^◌, ◌<◌, ◌≤◌, Bool, true, false, not, ◌||◌, eqb, ltb, leb, List, [], ◌∷◌, length, take, Some, None, sym, refl, ap, ◌∙◌, subst, arith}
 use Rattle.std.specs.List.{AllByRecursion}
 use Rattle.std.proofs.ByRecursion.{sum_by_le}
 use Rattle.std.proofs.lemmas.List.Sums.{sum_by-cons}
 use Rattle.std.proofs.lemmas.List.{take_all, length-take-le}
-use Rattle.std.proofs.lemmas.Bool.{eqb-false, or_parts, and_parts, leb-true, not-false}
+use Rattle.std.proofs.lemmas.Bool.{ne_eqb, eq-eqb, eqb-false, or_parts, and_parts, leb-true, not-false}
 use Rattle.rows.specs.Refusals.{Refusal, plain, fits}
 use Rattle.rows.proofs.Refusing.{first_none, fits_none, not_lt_from}
 use Rattle.rows.specs.Choices.{choices, members}
@@ -13,7 +13,7 @@ use Rattle.trail.specs.Readings.{rows_of, memory_of, height_of}
 use Rattle.trail.specs.Strokes.{standing}
 use Rattle.trail.specs.Trails.{some_empty, SomeStand, may_count, max_rows, entries_a_row, no_trail, made_rows, Admits}
 use Rattle.trail.specs.declared.trail.Trail.{Trail}
-use Rattle.trail.proofs.Members.{members_few, some_member}
+use Rattle.trail.proofs.Members.{members_few, some_member, member_not_zero}
 
 -- where no mask is 0, some choice stands in each row
 pub all_stand : (s : Sheet) → ((r : ℕ) → r < length s → row s r < 2 ^ choices) → some_empty s ≡ false → SomeStand s
@@ -25,6 +25,21 @@ all_stand (m ∷ s) fit none zero h =
     pos_from_ne zero ne = absurd (ne refl)
     pos_from_ne (suc n) ne = omega arith
 all_stand (m ∷ s) fit none (suc r) h = all_stand s (λ k i. fit (suc k) (omega arith)) (or_parts (eqb m 0) (some_empty s) none).1 r (omega arith)
+
+-- a row of mask 0 is an empty one, and where some choice stands in each row no mask is 0
+pub empty_at : (s : Sheet) (i : ℕ) → i < length s → row s i ≡ 0 → some_empty s ≡ true
+empty_at [] i h e = absurd (omega arith)
+empty_at (m ∷ s) zero h e = ap (λ b. b || some_empty s) (eq-eqb m 0 e)
+empty_at (m ∷ s) (suc i) h e = later (eqb m 0) (empty_at s i (omega arith) e)
+  where
+    later : (b : Bool) → some_empty s ≡ true → (b || some_empty s) ≡ true
+    later true t = refl
+    later false t = t
+
+pub none_empty : (s : Sheet) → SomeStand s → some_empty s ≡ false
+none_empty [] h = refl
+none_empty (m ∷ s) h =
+    ap (λ b. b || some_empty s) (ne_eqb m 0 (λ e. omega (arith, member_not_zero m (h 0 (omega arith))))) ∙ none_empty s (λ r k. h (suc r) (omega arith))
 
 -- at least one choice stands in each row, and at most all
 pub standing_least : (s : Sheet) → SomeStand s → length s ≤ standing s

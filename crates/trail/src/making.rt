@@ -1,4 +1,4 @@
-// The making of a trail.
+// The making of a trail, and its end.
 ghost use Rattle.std.specs.Prelude.{◌≡◌, length};
 ghost use Rattle.rows.specs.Refusals.{Answer};
 ghost use Rattle.trail.specs.Readings.{rows_of, memory_of, height_of};
@@ -8,7 +8,7 @@ use crate::refusal::TrailError;
 use crate::stack::Stack;
 use crate::trail::{ENTRIES_A_ROW, MAX_ROWS, Trail};
 
-impl<'a> Trail<'a> {
+impl<'r, 's> Trail<'r, 's> {
     // Refuses a mask 0, then no rows or more than 256 of them, then a record with fewer than 63 entries a row.
     #[tactic(auto, using(crate::proofs::Admitting::all_stand))]
     pub fn check(rows: &[u64], struck: &Stack<usize>) -> Result<(), TrailError>
@@ -39,7 +39,7 @@ impl<'a> Trail<'a> {
 
     // The rows of these masks with an empty record, or, where the check refuses, no rows: a making cannot refuse, by the
     // rules of the engine. The masks and the record's memory stay.
-    pub fn make(rows: &'a mut [u64], mut struck: Stack<'a, usize>) -> Trail<'a>
+    pub fn make(rows: &'r mut [u64], mut struck: Stack<'s, usize>) -> Trail<'r, 's>
         ensures rows { rows_of result ≡ made_rows (no_trail rows.old (length struck.entry.slots.now)) rows.old }
         ensures memory { memory_of result ≡ struck.entry.slots.now }
         ensures empty { height_of result ≡ 0 }
@@ -50,5 +50,14 @@ impl<'a> Trail<'a> {
             rows: &mut rows[..count],
             struck,
         }
+    }
+
+    // The rows, and the stack of the record with what it holds. The trail ends.
+    pub fn into_parts(self) -> (&'r mut [u64], Stack<'s, usize>)
+        ensures rows { result.0.now ≡ rows_of self.entry }
+        ensures record { result.1 ≡ self.entry.struck }
+    {
+        let Trail { rows, struck } = self;
+        (rows, struck)
     }
 }

@@ -13,7 +13,7 @@ use rows::mask::CHOICES;
 use rows::row::Row;
 use rows::walk::Walk;
 
-impl<'a> Trail<'a> {
+impl<'r, 's> Trail<'r, 's> {
     // Strikes from a row the choices that are not wanted, and records them in rising order. Refuses a row that is not there, and then a
     // row of which no choice would be left.
     pub fn narrow(&mut self, row: usize, wanted: u64) -> Result<(), TrailError>

@@ -21,7 +21,7 @@ fn count_all(rows: &[u64]) -> usize
     rows.iter().map(|mask| mask::count(*mask) as usize).sum()
 }
 
-impl<'a> Trail<'a> {
+impl<'r, 's> Trail<'r, 's> {
     // The rows, by their masks.
     pub fn rows(&self) -> &[u64]
         ensures { result.now ≡ rows_of self.now }

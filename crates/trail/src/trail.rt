@@ -13,12 +13,12 @@ pub const MAX_ROWS: usize = 256;
 pub const ENTRIES_A_ROW: usize = 63;
 
 // Rows in each of which some choice stands, and the record of what was struck from them, as row × 64 + choice by the rules of the
-// engine, oldest first. The record
-// has room for every choice that can be struck.
+// engine, oldest first. The record has room for every choice that can be struck. The rows and the record's memory are lent for as long as
+// each is, so that the stack goes back to whoever lent it for longer.
 #[derive(Drop)]
-pub struct Trail<'a> {
-    pub(crate) rows: &'a mut [u64],
-    pub(crate) struck: Stack<'a, usize>,
+pub struct Trail<'r, 's> {
+    pub(crate) rows: &'r mut [u64],
+    pub(crate) struck: Stack<'s, usize>,
     ghost some: { SomeStand rows.now },
     ghost few: { length rows.now ≤ max_rows },
     ghost enough: { entries_a_row * length rows.now ≤ length struck.slots.now },

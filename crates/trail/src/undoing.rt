@@ -10,7 +10,7 @@ use crate::trail::Trail;
 use rows::mask::CHOICES;
 use rows::row::Row;
 
-impl<'a> Trail<'a> {
+impl<'r, 's> Trail<'r, 's> {
     // Empties the record: what was struck stays struck, and cannot be put back.
     pub fn forget(&mut self)
         ensures rows { rows_of self.new ≡ rows_of self.old }

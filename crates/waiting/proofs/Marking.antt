@@ -18,7 +18,7 @@ none_marked n w = stands_zero w ∙ sym (ap (λ m. not (eqb m 0)) (zeros n w))
 
 module _ (words : List ℕ) (filled : ℕ) (marks : Marks words filled) where
   -- a word that is not marked is 0, and one that is marked is not
-  word_zero : (w : ℕ) → stands filled w ≡ false → get_or words w 0 ≡ 0
+  pub word_zero : (w : ℕ) → stands filled w ≡ false → get_or words w 0 ≡ 0
   word_zero w e = eqb-true (get_or words w 0) 0 (not-false (eqb (get_or words w 0) 0) (sym (marks w) ∙ e))
 
   pub word_some : (w : ℕ) → stands filled w ≡ true → 0 < get_or words w 0

@@ -1,9 +1,11 @@
 -- The order in which numbers wait, and the set of them.
-use Rattle.std.proofs.Common.{◌≡◌, ℕ, suc, ◌<◌, true, false, not, ◌||◌, eqb, ltb, List, [], ◌∷◌, ◌++◌, length, sym, refl, ap, ◌∙◌, arith}
+use Rattle.std.proofs.Common.{◌≡◌, ℕ, zero, suc, ◌<◌, Bool, true, false, not, ◌||◌, eqb, ltb, List, [], ◌∷◌, ◌++◌, length, get_or, set, replicate, sym, refl, ap, ◌∙◌, arith}
+use Rattle.std.proofs.lemmas.List.{get_or-set_same, get_or-set_other}
 use mathlib.Core.Bool.{or-false, or_assoc, or_comm}
 use Rattle.std.proofs.lemmas.Bool.{ne_eqb, and_parts, and_from, not-true, or_from, or_parts, lt-ltb, ltb-true, eqb-false}
 use Rattle.waiting.specs.Waiting.{With, how_many}
 use Rattle.waiting.specs.Turns.{among, apart, below}
+use Rattle.waiting.proofs.Changing.{with_from}
 use Rattle.waiting.proofs.Measuring.{many_le, many_more, many_empty}
 
 -- a number put last
@@ -39,3 +41,16 @@ many_among n (x ∷ q) a b =
 pub room_left : (n : ℕ) (q : List ℕ) (v : ℕ) → apart q ≡ true → below n q ≡ true → among q v ≡ false → v < n → length q < n
 room_left n q v a b e h =
     omega (arith, many_among n q a b, many_more (among q) (among (q ++ v ∷ [])) v n e h (among_push q v), many_le (among (q ++ v ∷ [])) n)
+
+-- flags of which none is set
+pub none_known : (n k : ℕ) → get_or (replicate n false) k false ≡ false
+none_known zero k = refl
+none_known (suc n) zero = refl
+none_known (suc n) (suc k) = none_known n k
+
+-- one more is set
+pub one_known : (flags : List Bool) (q : List ℕ) (v : ℕ) → v < length flags → ((k : ℕ) → get_or flags k false ≡ among q k)
+    → (k : ℕ) → get_or (set flags v true) k false ≡ among (q ++ v ∷ []) k
+one_known flags q v h known k =
+    with_from (λ i. get_or flags i false) (λ i. get_or (set flags v true) i false) v (get_or-set_same flags v true false h) (λ i ne. get_or-set_other flags v i true false ne) k
+    ∙ ap (λ b. b || eqb k v) (known k) ∙ sym (among_push q v k)

@@ -4,7 +4,7 @@ ghost use Rattle.waiting.specs.Waiting.{max_capacity, Empty, With, But};
 ghost use Rattle.rows.specs.Words.{holds};
 ghost use Rattle.waiting.specs.Sets.{LowestAnswer};
 
-use rows::mask::{CHOICES, contains, with, without};
+use rows::mask::{CHOICES, with, without};
 use std::marker::Model;
 
 // How many words have a bit for each number.
@@ -42,14 +42,6 @@ impl NumberSet {
             words: [0; WORDS],
             filled: 0,
         }
-    }
-
-    // Whether a number is in the set.
-    pub(crate) fn has(&self, number: usize) -> bool
-        requires { number < max_capacity }
-        ensures { result ≡ holds self.now number }
-    {
-        contains(self.words[number / CHOICES], number % CHOICES)
     }
 
     // Adds a number.

@@ -1,27 +1,26 @@
 // The waiting list that takes the number that has waited longest.
-ghost use Rattle.std.specs.Prelude.{◌≡◌, ℕ, true, [], ◌∷◌};
+ghost use Rattle.std.specs.Prelude.{◌≡◌, ℕ, true, false, [], ◌∷◌, slice_index_or};
 ghost use Rattle.rows.specs.Refusals.{Answer, first};
 ghost use Rattle.waiting.specs.ListRefusals.{list_says};
-ghost use Rattle.waiting.specs.Waiting.{may_have, no_capacity, PutAnswer};
+ghost use Rattle.waiting.specs.Waiting.{may_have, no_capacity, Empty, PutAnswer, TakeAnswer};
 ghost use Rattle.waiting.specs.Turns.{among, apart, below, TurnPut, TurnTaken, MadeEmpty};
-ghost use Rattle.rows.specs.Words.{holds};
 ghost use Rattle.waiting.specs.Oldest.{lawful_oldest};
 
 use crate::list::{MAX_CAPACITY, WaitingList};
-use crate::numbers::NumberSet;
 use crate::refusal::{ListError, PutError};
 use crate::ring::Ring;
 
-// The numbers that wait, oldest first, and the set of them.
+// The numbers that wait, oldest first, and for each number whether it is among them. Flags and no `NumberSet`: a put or a take writes one flag
+// and reads no word, which is about twice as fast.
 #[derive(Drop)]
 pub struct OldestFirst {
     capacity: usize,
-    waiting: NumberSet,
+    waiting: [bool; MAX_CAPACITY],
     ring: Ring,
     ghost size: { may_have capacity ≡ true },
     ghost once: { apart ring ≡ true },
     ghost within: { below capacity ring ≡ true },
-    ghost known: { (k : ℕ) → holds waiting k ≡ among ring k },
+    ghost known: { (k : ℕ) → slice_index_or waiting k false ≡ among ring k },
 }
 
 impl OldestFirst {
@@ -47,7 +46,7 @@ impl OldestFirst {
         };
         OldestFirst {
             capacity,
-            waiting: NumberSet::new(),
+            waiting: [false; MAX_CAPACITY],
             ring: Ring::new(),
         }
     }
@@ -67,10 +66,11 @@ impl WaitingList for OldestFirst {
     }
 
     fn clear(&mut self)
-        ensures { (self.new.capacity ≡ self.old.capacity) × (self.new.ring ≡ []) }
+        ensures order { self.new.ring ≡ [] }
+        ensures numbers { (self.new.capacity ≡ self.old.capacity) × (Empty (among self.new.ring)) }
     {
-        self.waiting = NumberSet::new();
-        self.ring = Ring::new();
+        self.waiting = [false; MAX_CAPACITY];
+        self.ring.clear();
     }
 
     // Lets a number wait, behind all that do. One that does already keeps its turn.
@@ -81,8 +81,8 @@ impl WaitingList for OldestFirst {
         if number >= self.capacity {
             return Err(PutError::Number);
         }
-        if !self.waiting.has(number) {
-            self.waiting.put(number);
+        if !self.waiting[number] {
+            self.waiting[number] = true;
             self.ring.push(number as u16);
         }
         Ok(())
@@ -90,10 +90,11 @@ impl WaitingList for OldestFirst {
 
     // Takes the number that has waited longest, if any waits.
     fn take(&mut self) -> Option<usize>
-        ensures { (self.new.capacity ≡ self.old.capacity) × (TurnTaken self.old.ring self.new.ring result) }
+        ensures turn { TurnTaken self.old.ring self.new.ring result }
+        ensures numbers { (self.new.capacity ≡ self.old.capacity) × (TakeAnswer (among self.old.ring) (among self.new.ring) result) }
     {
         let number = self.ring.pop()? as usize;
-        self.waiting.remove(number);
+        self.waiting[number] = false;
         Some(number)
     }
 }

@@ -40,6 +40,14 @@ impl Ring {
         }
     }
 
+    // Takes out all numbers. The slots stay as they are, since none is in use.
+    #[tactic(auto, using(crate::proofs::Ringing::none_in_turn))]
+    pub(crate) fn clear(&mut self)
+        ensures { self.new ≡ [] }
+    {
+        self.len = 0;
+    }
+
     // Adds a number at the end.
     pub(crate) fn push(&mut self, number: u16)
         requires { length self.old < max_capacity }

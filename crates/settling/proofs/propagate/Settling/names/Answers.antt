@@ -30,7 +30,7 @@ module _ (R : Rule) (row : ℕ) where
 
 pub returns : goal.returns
 returns g c =
-    let Rs = rules_of c.args.self.now in
+    let Rs = rules_of g.B.Bank.rules c.args.self.now in
     let k = c.args.rule in
     let row = c.args.row in
     let R = rule_at Rs k in

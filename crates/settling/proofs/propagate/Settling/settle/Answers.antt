@@ -26,31 +26,31 @@ pub overflow_sub-result : goal.overflow_sub-result
 overflow_sub-result g c =
     let x = c.args.self.now in
     let f = c.fill.new.self in
-    let y = state_of c.revise_waiting.new.self in
-    let end = from_start (rules_of f) (rules_of x) f.trail.now x.trail.now (state_of f).waits y (Ok tt) (ap g.B.Bank.rules c.fill.ensures.keeps.bank) c.fill.ensures.trail c.in-Ok.ensures.answer in
-    omega (arith, c.standing.ensures, c.standing-before.ensures, strikes_falls (rules_of x) (rows_of x.trail.now) y.rows _ _ end.0)
+    let y = state_of g.L.WaitingList.waits c.revise_waiting.new.self in
+    let end = from_start (rules_of g.B.Bank.rules f) (rules_of g.B.Bank.rules x) f.trail.now x.trail.now (state_of g.L.WaitingList.waits f).waits y (Ok tt) (ap g.B.Bank.rules c.fill.ensures.keeps.bank) c.fill.ensures.trail c.in-Ok.ensures.answer in
+    omega (arith, c.standing.ensures, c.standing-before.ensures, strikes_falls (rules_of g.B.Bank.rules x) (rows_of x.trail.now) y.rows _ _ end.0)
 
 pub returns-in-Ok-clause-ends : goal.returns-in-Ok-clause-ends
 returns-in-Ok-clause-ends g c =
     let x = c.args.self.now in
-    let Rs = rules_of x in
+    let Rs = rules_of g.B.Bank.rules x in
     let f = c.fill.new.self in
-    let y = state_of c.revise_waiting.new.self in
-    let end = from_start (rules_of f) Rs f.trail.now x.trail.now (state_of f).waits y (Ok tt) (ap g.B.Bank.rules c.fill.ensures.keeps.bank) c.fill.ensures.trail c.in-Ok.ensures.answer in
+    let y = state_of g.L.WaitingList.waits c.revise_waiting.new.self in
+    let end = from_start (rules_of g.B.Bank.rules f) Rs f.trail.now x.trail.now (state_of g.L.WaitingList.waits f).waits y (Ok tt) (ap g.B.Bank.rules c.fill.ensures.keeps.bank) c.fill.ensures.trail c.in-Ok.ensures.answer in
     let n = c.standing-before.result - c.standing.result in
     let count : n + standing y.rows ≡ standing (rows_of x.trail.now) = omega (arith, c.standing.ensures, c.standing-before.ensures, strikes_falls Rs (rows_of x.trail.now) y.rows _ _ end.0) in
-    let tells = tells_settled Rs (state_of x) y n x.trail.now.some end count in
-    ends_from Rs (Settled n) (state_of x) y tells end.1
+    let tells = tells_settled Rs (state_of g.L.WaitingList.waits x) y n x.trail.now.some end count in
+    ends_from Rs (Settled n) (state_of g.L.WaitingList.waits x) y tells end.1
 
 pub returns-in-Err-clause-ends : goal.returns-in-Err-clause-ends
 returns-in-Err-clause-ends g c =
     let x = c.args.self.now in
-    let Rs = rules_of x in
+    let Rs = rules_of g.B.Bank.rules x in
     let f = c.fill.new.self in
-    let y = state_of c.revise_waiting.new.self in
-    let z = state_of c.give_up.new.self in
+    let y = state_of g.L.WaitingList.waits c.revise_waiting.new.self in
+    let z = state_of g.L.WaitingList.waits c.give_up.new.self in
     let dead = c.in-Err.field-0 in
-    let end = from_start (rules_of f) Rs f.trail.now x.trail.now (state_of f).waits y (Err dead) (ap g.B.Bank.rules c.fill.ensures.keeps.bank) c.fill.ensures.trail c.in-Err.ensures.answer in
+    let end = from_start (rules_of g.B.Bank.rules f) Rs f.trail.now x.trail.now (state_of g.L.WaitingList.waits f).waits y (Err dead) (ap g.B.Bank.rules c.fill.ensures.keeps.bank) c.fill.ensures.trail c.in-Err.ensures.answer in
     let undoes = subst (λ (h : ℕ). Undoes h y.rows z.rows y.strokes z.strokes) c.height-height.ensures c.give_up.ensures.undone.undone in
-    let tells = tells_wiped Rs (state_of x) y _ dead z (g.B.Bank.lawful x.bank.now) x.width end undoes in
-    ends_from Rs (Wiped dead.0) (state_of x) z tells c.give_up.ensures.undone.empty
+    let tells = tells_wiped Rs (state_of g.L.WaitingList.waits x) y _ dead z (g.B.Bank.lawful x.bank.now) c.requires.fits.width end undoes in
+    ends_from Rs (Wiped dead.0) (state_of g.L.WaitingList.waits x) z tells c.give_up.ensures.undone.empty

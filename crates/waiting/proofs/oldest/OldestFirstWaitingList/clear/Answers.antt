@@ -1,0 +1,7 @@
+use Rattle.std.proofs.Common.{sym, ap, ◌∙◌}
+use Rattle.waiting.specs.Turns.{among}
+use Rattle.waiting.proofs.Queuing.{none_known}
+use Rattle.waiting.proofs.oldest.OldestFirstWaitingList.clear.Goals as goal
+
+pub invariant_of-self-clause-known : goal.invariant_of-self-clause-known
+invariant_of-self-clause-known c = λ k. none_known 512 k ∙ sym (ap (λ q. among q k) c.clear.ensures)
