@@ -10,7 +10,7 @@ use trail::trail::Trail;
 
 // A sheet: rows with the record of what was struck from them, the open marks, how many marks were given and how many can be open. No open
 // mark was given at a height that the record does not reach, and a later one at no lesser height. The rows and the memory of the marks are lent
-// for as long, the record's memory for as long as it is.
+// for one time, and the record's memory for another, as those of a trail.
 #[derive(Drop)]
 pub struct Sheet<'r, 's> {
     pub(crate) trail: Trail<'r, 's>,

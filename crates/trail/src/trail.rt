@@ -13,8 +13,8 @@ pub const MAX_ROWS: usize = 256;
 pub const ENTRIES_A_ROW: usize = 63;
 
 // Rows in each of which some choice stands, and the record of what was struck from them, as row × 64 + choice by the rules of the
-// engine, oldest first. The record has room for every choice that can be struck. The rows and the record's memory are lent for as long as
-// each is, so that the stack goes back to whoever lent it for longer.
+// engine, oldest first. The record has room for every choice that can be struck. The rows are lent for one time and the record's memory for
+// another, so that the stack can go back to whoever lends it for longer than the rows.
 #[derive(Drop)]
 pub struct Trail<'r, 's> {
     pub(crate) rows: &'r mut [u64],
