@@ -18,7 +18,8 @@ struct DeadRule(usize);
 
 // What settling works on: the rows of a trail, the rules of a bank, and a list for those that wait. The lifetimes are those of the three
 // references, and of the rows and the record behind the first: as in a call, each has its own. That the rules fit is what six methods
-// require, by one clause, and no ghost field: the borrow checker covers no struct with one over two lifetimes behind a reference.
+// require, by one clause, and no ghost field: where a struct has one over two lifetimes behind a reference, the borrow checker does not
+// cover a function that makes it and lends it.
 #[derive(Drop)]
 struct Settling<'t, 'r, 's, 'k, 'l, B: Bank, L: WaitingList> {
     trail: &'t mut Trail<'r, 's>,
